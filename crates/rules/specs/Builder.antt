@@ -1,0 +1,27 @@
+-- What the reading rules ask of a builder of trees, whatever it is made of: a record of operations over a type of states, of marks and of frames.
+-- Each operation is handed the place, the first token not wholly read, which is where a refusal of it stands.
+use Prim.Native.Nat.{ℕ}
+use Rattle.rules.specs.Outcome.{Out}
+
+-- a leaf as it is handed over: its token, its kind, and the range of its text
+pub record Leaf : Type 0 where
+  pub token : ℕ
+  pub kind : ℕ
+  pub start : ℕ
+  pub size : ℕ
+
+pub record Builder : Type 1 where
+  pub State : Type 0
+  -- where a wrap may begin later
+  pub Mark : Type 0
+  -- what has to be known again of a node once a node inside it is closed
+  pub Frame : Type 0
+  pub mark : State → Mark
+  pub frame : State → Frame
+  -- the operations, each at a place
+  pub leaf : ℕ → Leaf → State → Out State
+  pub start : ℕ → ℕ → State → Out State
+  pub wrap : ℕ → ℕ → Mark → State → Out State
+  pub finish : ℕ → ℕ → Frame → State → Out State
+  -- a token is dropped, for a reason
+  pub drop : ℕ → ℕ → State → State

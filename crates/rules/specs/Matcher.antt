@@ -1,0 +1,107 @@
+-- The argument matcher (arg_match.rs): what a shape accepts as the next argument. The glob string is a state's number.
+use Prim.Native.Nat.{ℕ, _+_, _-_}
+use mathlib.Core.Bool.{Bool, true, false, cond}
+use mathlib.Core.List.{List, [], _∷_}
+use lib.Dec.{eqb, ltb}
+use Rattle.rules.specs.Limits
+use Rattle.rules.specs.Tables.{cell}
+
+-- "Forms: 0 none; 1 fixed ..; 2 range ..; 3 greedy; 4 glob ..; 5 left1; 6 infix-greedy."
+abbrev pub formNone : ℕ
+formNone = 0
+
+abbrev pub formFixed : ℕ
+formFixed = 1
+
+abbrev pub formRange : ℕ
+formRange = 2
+
+abbrev pub formGreedy : ℕ
+formGreedy = 3
+
+abbrev pub formGlob : ℕ
+formGlob = 4
+
+abbrev pub formLeft1 : ℕ
+formLeft1 = 5
+
+abbrev pub formInfixGreedy : ℕ
+formInfixGreedy = 6
+
+-- "t, b, p": what comes next, as the matcher sees it: a term, a bracket group, a paren group. The columns of a state row are in this order
+pub data Argument : Type 0 where
+  term bracket paren : Argument
+
+abbrev pub column : Argument → ℕ
+column term = 0
+column bracket = 1
+column paren = 2
+
+abbrev pub isTerm : Argument → Bool
+isTerm term = true
+isTerm bracket = false
+isTerm paren = false
+
+pub data Matcher : Type 0 where
+  -- accepts nothing
+  nothing : Matcher
+  -- at most so many terms, of which so many were accepted
+  atMost : ℕ → ℕ → Matcher
+  -- accepts everything
+  greedy : Matcher
+  -- stands at a state of the table
+  glob : ℕ → Matcher
+
+-- an answer: refused, or accepted with the matcher for what comes next
+pub data Tried : Type 0 where
+  refused : Tried
+  accepted : Matcher → Tried
+
+-- "State row: for t, b, p the next state, or 0 for not accepted." States count from 1
+abbrev pub nextState : List ℕ → ℕ → Argument → ℕ
+nextState states state a = cell Limits.stateWidth states (state - 1) (column a)
+
+-- the matcher that a shape starts with. "Range 0 is not form 0: it runs a matcher that accepts nothing." "Greedy commands, infix too"
+unfoldable pub startMatch : ℕ → ℕ → Matcher
+startMatch form value =
+    cond (eqb form formFixed) (cond (eqb value 0) nothing (atMost value 0))
+    (cond (eqb form formRange) (cond (eqb value 0) nothing (atMost value 0))
+    (cond (eqb form formGreedy) greedy
+    (cond (eqb form formGlob) (glob value)
+    (cond (eqb form formInfixGreedy) greedy nothing))))
+
+abbrev pub isGreedy : Matcher → Bool
+isGreedy nothing = false
+isGreedy (atMost n counter) = false
+isGreedy greedy = true
+isGreedy (glob state) = false
+
+-- "At most n terms: n accepted, then refused." "Glob: the state moves by t, b, p"
+unfoldable pub tryMatch : List ℕ → Matcher → Argument → Tried
+tryMatch states nothing a = refused
+tryMatch states (atMost n counter) term = cond (ltb counter n) (accepted (atMost n (counter + 1))) refused
+tryMatch states (atMost n counter) bracket = refused
+tryMatch states (atMost n counter) paren = refused
+tryMatch states greedy a = accepted greedy
+tryMatch states (glob state) a = cond (eqb (nextState states state a) 0) refused (accepted (glob (nextState states state a)))
+
+-- an answer at an opening brace: refused, or accepted as a whole group or as the bare brace
+pub data Matched : Type 0 where
+  none : Matched
+  whole : Matcher → Matched
+  bare : Matcher → Matched
+
+abbrev pub asGroup : Tried → Matched
+asGroup refused = none
+asGroup (accepted m) = whole m
+
+abbrev pub asTerm : Argument → Tried → Matched
+asTerm a refused = none
+asTerm a (accepted m) = cond (isTerm a) (whole m) (bare m)
+
+-- "`[` or `(` counts as a term and is eaten alone." (at most, and greedy: "`[` and `(` are eaten plain") "Glob: .. `[` and `(` read whole groups."
+unfoldable pub matchAsTerm : List ℕ → Matcher → Argument → Matched
+matchAsTerm states nothing a = none
+matchAsTerm states (atMost n counter) a = asTerm a (tryMatch states (atMost n counter) term)
+matchAsTerm states greedy a = asTerm a (accepted greedy)
+matchAsTerm states (glob state) a = asGroup (tryMatch states (glob state) a)

@@ -1,0 +1,24 @@
+-- What a routine comes to: it went on, or it was refused with a number and a place.
+use Prim.Native.Nat.{ℕ}
+
+pub data Out (P : Type 0) : Type 0 where
+  went : P → Out P
+  refused : ℕ → ℕ → Out P
+
+-- a routine and then another: a refusal ends it
+abbrev pub bind : {P Q : Type 0} → Out P → (P → Out Q) → Out Q
+bind (went p) f = f p
+bind (refused number place) f = refused number place
+
+-- the numbers of refusal that come while reading (01, 'Numbers of refusal')
+abbrev pub greedyEnvironment : ℕ
+greedyEnvironment = 5
+
+abbrev pub markBeforeNode : ℕ
+markBeforeNode = 6
+
+abbrev pub tooManyOpen : ℕ
+tooManyOpen = 7
+
+abbrev pub noRoom : ℕ
+noRoom = 8

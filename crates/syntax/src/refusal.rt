@@ -1,0 +1,23 @@
+// The numbers of refusal of 01.
+pub struct Refusal;
+
+impl Refusal {
+    // A limit is passed, or a table isn't whole rows.
+    pub const LIMIT: u32 = 1;
+    // The dropped buffer has under 3 numbers per token.
+    pub const DROPPED_ROOM: u32 = 2;
+    // A token row is not as it must be.
+    pub const TOKEN: u32 = 3;
+    // A shape row or a state row is not as it must be.
+    pub const SHAPE: u32 = 4;
+    // The arguments of an environment are greedy.
+    pub const GREEDY_ENVIRONMENT: u32 = 5;
+    // A wrap's mark lies before the first child of the innermost open node.
+    pub const MARK_BEFORE_NODE: u32 = 6;
+    // A 129th node would be open.
+    pub const TOO_MANY_OPEN: u32 = 7;
+    // A row more than the tree buffer has.
+    pub const NO_ROOM: u32 = 8;
+    // A sheet that can't be read.
+    pub const SHEET: u32 = 9;
+}
