@@ -1,0 +1,159 @@
+//! Shows what the Rust does with one formula.
+//!
+//! `show '\f xy' f=fixed2` prints the token, shape and state rows, the tree, the rows
+//! in the order of writing with their places, and what was dropped, or the refusal.
+//! `--room N` gives a tree buffer of N numbers, `--treelist` prints as `treelist` does.
+
+use std::process::ExitCode;
+
+use answers::{names, with_deep_stack, Run, Spec};
+use sheet::{Answer, LEAF, START};
+use tape::Write;
+
+struct Asked {
+    formula: String,
+    spec: Spec,
+    room: usize,
+    treelist: bool,
+}
+
+fn asked() -> Result<Asked, String> {
+    let mut asked = Asked {
+        formula: String::new(),
+        spec: Spec::default(),
+        room: usize::MAX,
+        treelist: false,
+    };
+    let mut words = std::env::args().skip(1);
+    asked.formula = words.next().ok_or("usage: show FORMULA [NAME=FORM]..")?;
+    while let Some(word) = words.next() {
+        match word.as_str() {
+            "--treelist" => asked.treelist = true,
+            "--room" => {
+                let numbers = words.next().and_then(|n| n.parse::<usize>().ok());
+                asked.room = numbers.ok_or("--room wants a count of numbers")? / 4;
+            }
+            _ => asked.spec.shapes.push(word.parse()?),
+        }
+    }
+    Ok(asked)
+}
+
+fn main() -> ExitCode {
+    match asked().and_then(|asked| with_deep_stack(move || show(&asked))) {
+        Ok(()) => ExitCode::SUCCESS,
+        Err(why) => {
+            eprintln!("show: {why}");
+            ExitCode::FAILURE
+        }
+    }
+}
+
+fn show(asked: &Asked) -> Result<(), String> {
+    let run = Run::of(&asked.formula, &asked.spec).map_err(|fault| fault.to_string())?;
+    let answer = run.answer(asked.room);
+    if asked.treelist {
+        treelist(&answer);
+        return Ok(());
+    }
+    tables(&asked.formula, &run, &asked.spec);
+    writes(&asked.formula, &run);
+    println!("\nanswer");
+    treelist(&answer);
+    if let Answer::Accepted { .. } = answer {
+        println!("\ntree");
+        tree(&asked.formula, &run);
+    }
+    Ok(())
+}
+
+fn part(formula: &str, start: u32, len: u32) -> &str {
+    &formula[start as usize..(start + len) as usize]
+}
+
+fn tables(formula: &str, run: &Run, spec: &Spec) {
+    println!("tokens: kind start length shape");
+    for (index, t) in run.tables.tokens().enumerate() {
+        let name = names::token_kind(t.kind);
+        let text = part(formula, t.start, t.len);
+        let row = format!("{} {} {} {}", t.kind, t.start, t.len, t.shape);
+        println!("{index:5}  {row:16} {name} {text:?}");
+    }
+    println!("\nshapes: class form value");
+    for (index, named) in spec.shapes.iter().enumerate() {
+        let s = run.tables.shape(index);
+        println!(
+            "{:5}  {} {} {}  {}",
+            index + 1,
+            s.class,
+            s.form,
+            s.value,
+            named.name
+        );
+    }
+    println!("\nstates: next for t b p");
+    for index in 0..run.tables.state_count() {
+        let [t, b, p] = run.tables.state(index);
+        println!("{:5}  {t} {b} {p}", index + 1);
+    }
+}
+
+fn writes(formula: &str, run: &Run) {
+    println!("\nrows in the order of writing: place, row");
+    for (index, (write, place)) in run.writes.iter().enumerate() {
+        let row = match *write {
+            Write::Start { kind } => format!("start {}", names::tree_kind(kind.into())),
+            Write::Wrap { kind, mark } => {
+                format!("wrap {} at child {mark}", names::tree_kind(kind.into()))
+            }
+            Write::Leaf { kind, start, len } => format!(
+                "leaf {} {start} {len} {:?}",
+                names::tree_kind(kind.into()),
+                part(formula, start as u32, len as u32)
+            ),
+            Write::Finish => "finish".to_owned(),
+        };
+        println!("{index:5}  {place:5}  {row}");
+    }
+    println!("\nmost nodes open: {}", run.deepest);
+}
+
+/// As the program `treelist` prints.
+fn treelist(answer: &Answer) {
+    let (rows, dropped) = match answer {
+        Answer::Accepted { rows, dropped } => (rows, dropped),
+        Answer::Refused { number, place } => return println!("refused {number} {place}"),
+    };
+    println!("ok {} {}", rows.len(), dropped.len());
+    let mut depth = 0;
+    for row in rows {
+        match row.tag {
+            START => println!("{depth} {}", row.kind),
+            LEAF => println!("{depth} {} {} {}", row.kind, row.start, row.len),
+            _ => depth -= 1,
+        }
+        depth += i32::from(row.tag == START);
+    }
+    for d in dropped {
+        println!("d {} {} {}", d.token, d.reason, d.leaves);
+    }
+}
+
+fn tree(formula: &str, run: &Run) {
+    let mut depth = 0;
+    for row in &run.rows {
+        let name = names::tree_kind(row.kind);
+        match row.tag {
+            START => {
+                println!("{:depth$}{name}", "");
+                depth += 2;
+            }
+            LEAF => println!(
+                "{:depth$}{name} {:?}",
+                "",
+                part(formula, row.start, row.len)
+            ),
+            _ => depth -= 2,
+        }
+    }
+}

@@ -1,0 +1,39 @@
+//! What a run gives back.
+
+/// The tag of a row that opens a node.
+pub const START: u32 = 0;
+/// The tag of a row that holds a text.
+pub const LEAF: u32 = 1;
+/// The tag of a row that closes a node.
+pub const FINISH: u32 = 2;
+
+/// A row of the tree. `start` and `len` are 0 unless it is a leaf.
+#[derive(Debug, Clone, Copy, PartialEq, Eq)]
+pub struct Row {
+    pub tag: u32,
+    pub kind: u32,
+    pub start: u32,
+    pub len: u32,
+}
+
+/// A token that no leaf holds.
+#[derive(Debug, Clone, Copy, PartialEq, Eq)]
+pub struct Dropped {
+    pub token: u32,
+    /// 1 trivia, 2 opener, 3 closer.
+    pub reason: u32,
+    pub leaves: u32,
+}
+
+/// The whole answer to a run.
+#[derive(Debug, Clone, PartialEq, Eq)]
+pub enum Answer {
+    Accepted {
+        rows: Vec<Row>,
+        dropped: Vec<Dropped>,
+    },
+    Refused {
+        number: u32,
+        place: u32,
+    },
+}

@@ -1,0 +1,10 @@
+//! The tables that document 01 lets in, the rows that it lets out, and the bytes of
+//! a sheet. Nothing here knows of mitex.
+
+mod answer;
+mod bytes;
+mod tables;
+
+pub use answer::{Answer, Dropped, Row, FINISH, LEAF, START};
+pub use bytes::Bytes;
+pub use tables::{Shape, State, Tables, Token};

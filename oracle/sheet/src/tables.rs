@@ -1,0 +1,103 @@
+//! The four tables that go into a run.
+
+use crate::Bytes;
+
+#[derive(Debug, Clone, Copy, PartialEq, Eq)]
+pub struct Token {
+    pub kind: u32,
+    pub start: u32,
+    pub len: u32,
+    /// 0 none, k the k-th shape.
+    pub shape: u32,
+}
+
+#[derive(Debug, Clone, Copy, PartialEq, Eq)]
+pub struct Shape {
+    /// 1 command, 2 environment.
+    pub class: u32,
+    pub form: u32,
+    pub value: u32,
+}
+
+/// For t, b and p the next state, or 0 for not accepted.
+pub type State = [u32; 3];
+
+/// The tables as they are lent: bytes and flat numbers, so that a table need not
+/// consist of whole rows.
+#[derive(Debug, Default, Clone, PartialEq, Eq)]
+pub struct Tables {
+    pub text: Vec<u8>,
+    pub tokens: Vec<u32>,
+    pub shapes: Vec<u32>,
+    pub states: Vec<u32>,
+}
+
+impl Tables {
+    pub fn new(text: &[u8], tokens: &[Token], shapes: &[Shape], states: &[State]) -> Self {
+        Self {
+            text: text.to_vec(),
+            tokens: tokens
+                .iter()
+                .flat_map(|t| [t.kind, t.start, t.len, t.shape])
+                .collect(),
+            shapes: shapes
+                .iter()
+                .flat_map(|s| [s.class, s.form, s.value])
+                .collect(),
+            states: states.iter().flatten().copied().collect(),
+        }
+    }
+
+    pub fn token_count(&self) -> usize {
+        self.tokens.len() / 4
+    }
+
+    pub fn token(&self, index: usize) -> Token {
+        let row = &self.tokens[4 * index..4 * index + 4];
+        Token {
+            kind: row[0],
+            start: row[1],
+            len: row[2],
+            shape: row[3],
+        }
+    }
+
+    pub fn tokens(&self) -> impl Iterator<Item = Token> + '_ {
+        (0..self.token_count()).map(|index| self.token(index))
+    }
+
+    pub fn shape_count(&self) -> usize {
+        self.shapes.len() / 3
+    }
+
+    pub fn shape(&self, index: usize) -> Shape {
+        let row = &self.shapes[3 * index..3 * index + 3];
+        Shape {
+            class: row[0],
+            form: row[1],
+            value: row[2],
+        }
+    }
+
+    pub fn state_count(&self) -> usize {
+        self.states.len() / 3
+    }
+
+    pub fn state(&self, index: usize) -> State {
+        let row = &self.states[3 * index..3 * index + 3];
+        [row[0], row[1], row[2]]
+    }
+
+    /// The sheet that `treelist` reads.
+    pub fn sheet(&self) -> Vec<u8> {
+        let mut sheet = Bytes::default();
+        sheet.u8(1);
+        sheet.section(&self.text);
+        for numbers in [&self.tokens, &self.shapes, &self.states] {
+            let mut section = Bytes::default();
+            numbers.iter().for_each(|&n| section.u32(n));
+            sheet.section(&section.0);
+        }
+        sheet.0
+    }
+}

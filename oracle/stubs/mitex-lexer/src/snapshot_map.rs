@@ -1,0 +1,1 @@
+//! Stands for the map that the macro engine keeps its definitions in.

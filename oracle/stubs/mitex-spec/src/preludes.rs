@@ -1,0 +1,1 @@
+//! Stands for the prepared specifications, which are not among the sources.
