@@ -21,7 +21,7 @@ pub record Builder : Type 1 where
   -- the operations, each at a place
   pub leaf : ℕ → Leaf → State → Out State
   pub start : ℕ → ℕ → State → Out State
-  pub wrap : ℕ → ℕ → Mark → State → Out State
+  pub startAt : ℕ → ℕ → Mark → State → Out State
   pub finish : ℕ → ℕ → Frame → State → Out State
   -- a token is dropped, for a reason
   pub drop : ℕ → ℕ → State → State

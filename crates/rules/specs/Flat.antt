@@ -5,8 +5,9 @@ use mathlib.Core.List.{List, [], _∷_, _++_}
 use lib.ListN.{take, drop}
 use lib.Dec.{ltb, leb, eqb}
 use Rattle.rules.specs.Limits
-use Rattle.rules.specs.Outcome.{Out, went, refused, markBeforeNode, tooManyOpen, noRoom}
-use Rattle.rules.specs.Builder.{Builder, Leaf}
+use Rattle.rules.specs.Outcome.{Out, went, refused, bind, markBeforeNode, tooManyOpen, noRoom}
+use Rattle.rules.specs.SyntaxKind.{ClauseArgument}
+use Rattle.rules.specs.Builder.{Builder}
 
 -- "Tree row: tag (0 start, 1 leaf, 2 finish), kind, start, length; last two 0 unless a leaf. A finish names the kind it closes."
 abbrev pub tagStart : ℕ
@@ -18,8 +19,8 @@ tagLeaf = 1
 abbrev pub tagFinish : ℕ
 tagFinish = 2
 
-abbrev pub leafRow : Leaf → List ℕ
-leafRow l = tagLeaf ∷ l .kind ∷ l .start ∷ l .size ∷ []
+abbrev pub leafRow : ℕ → ℕ → ℕ → List ℕ
+leafRow kind start size = tagLeaf ∷ kind ∷ start ∷ size ∷ []
 
 abbrev pub startRow : ℕ → List ℕ
 startRow kind = tagStart ∷ kind ∷ 0 ∷ 0 ∷ []
@@ -60,10 +61,10 @@ orNoRoom room place b go = cond (ltb (b .rows) (room / Limits.treeWidth)) go (re
 abbrev pub orTooManyOpen : ℕ → Rows → Out Rows → Out Rows
 orTooManyOpen place b go = cond (leb Limits.nodes (b .depth)) (refused tooManyOpen place) go
 
-unfoldable pub leaf : ℕ → ℕ → Leaf → Rows → Out Rows
-leaf room place l b =
+unfoldable pub leaf : ℕ → ℕ → ℕ → ℕ → ℕ → Rows → Out Rows
+leaf room place kind start size b =
     orNoRoom room place b
-    (went (record { rows = b .rows + 1; leaves = b .leaves + 1; depth = b .depth; children = b .children + 1; first = b .first; node = b .node; tree = b .tree ++ leafRow l }))
+    (went (record { rows = b .rows + 1; leaves = b .leaves + 1; depth = b .depth; children = b .children + 1; first = b .first; node = b .node; tree = b .tree ++ leafRow kind start size }))
 
 unfoldable pub start : ℕ → ℕ → ℕ → Rows → Out Rows
 start room place kind b =
@@ -77,27 +78,38 @@ finish room place kind f b =
     orNoRoom room place b
     (went (record { rows = b .rows + 1; leaves = b .leaves; depth = b .depth - 1; children = b .first + 1; first = f .first; node = f .node; tree = b .tree ++ finishRow kind }))
 
--- where a wrap's start row goes: "a wrap at an open node's own first child goes inside that node", behind its start row
-unfoldable pub wrapRow : Mark → Rows → ℕ
-wrapRow m b = cond (eqb (m .children) (b .first)) (b .node + 1) (m .row)
+-- where the start row of a node that begins at a mark goes: "a wrap at an open node's own first child goes inside that node", behind its start row
+unfoldable pub startAtRow : Mark → Rows → ℕ
+startAtRow m b = cond (eqb (m .children) (b .first)) (b .node + 1) (m .row)
 
 -- a row goes in before a row of the tree
 abbrev pub insert : ℕ → List ℕ → List ℕ → List ℕ
 insert row numbers tree = take (row * Limits.treeWidth) tree ++ (numbers ++ drop (row * Limits.treeWidth) tree)
 
--- "a wrap's mark lies before the first child of the innermost open node"; "at one opening 6, then 7, then 8"
-unfoldable pub wrap : ℕ → ℕ → ℕ → Mark → Rows → Out Rows
-wrap room place kind m b =
-    cond (ltb (m .children) (b .first)) (refused markBeforeNode place)
+-- "a wrap's mark lies before the first child of the innermost open node"
+abbrev pub orMarkBeforeNode : ℕ → Mark → Rows → Out Rows → Out Rows
+orMarkBeforeNode place m b go = cond (ltb (m .children) (b .first)) (refused markBeforeNode place) go
+
+-- "at one opening 6, then 7, then 8"
+unfoldable pub startAt : ℕ → ℕ → ℕ → Mark → Rows → Out Rows
+startAt room place kind m b =
+    orMarkBeforeNode place m b
     (orTooManyOpen place b
     (orNoRoom room place b
-    (went (record { rows = b .rows + 1; leaves = b .leaves; depth = b .depth + 1; children = b .children; first = m .children; node = wrapRow m b; tree = insert (wrapRow m b) (startRow kind) (b .tree) }))))
+    (went (record { rows = b .rows + 1; leaves = b .leaves; depth = b .depth + 1; children = b .children; first = m .children; node = startAtRow m b; tree = insert (startAtRow m b) (startRow kind) (b .tree) }))))
 
 abbrev pub markOf : Rows → Mark
 markOf b = record { children = b .children; row = b .rows }
 
 abbrev pub frameOf : Rows → Frame
 frameOf b = record { first = b .first; node = b .node }
+
+-- a wrap: a node begins at the mark and stays open, and inside it one is closed around what stood there
+unfoldable pub wrap : ℕ → ℕ → ℕ → Mark → Rows → Out Rows
+wrap room place kind m b =
+    bind (startAt room place kind m b) (λ outer.
+    bind (startAt room place ClauseArgument m outer) (λ inner.
+    finish room place ClauseArgument (frameOf outer) inner))
 
 -- "Dropped row: token index, reason (1 trivia, 2 opener, 3 closer), leaves written before it."
 abbrev pub droppedRow : ℕ → ℕ → ℕ → List ℕ
@@ -131,9 +143,9 @@ flat room =
       Frame = Frame;
       mark = λ b. markOf (b .tree);
       frame = λ b. frameOf (b .tree);
-      leaf = λ place l b. onTree b (leaf room place l (b .tree));
+      leaf = λ place l b. onTree b (leaf room place (l .kind) (l .start) (l .size) (b .tree));
       start = λ place kind b. onTree b (start room place kind (b .tree));
-      wrap = λ place kind m b. onTree b (wrap room place kind m (b .tree));
+      startAt = λ place kind m b. onTree b (startAt room place kind m (b .tree));
       finish = λ place kind f b. onTree b (finish room place kind f (b .tree));
       drop = λ token reason b. record { tree = b .tree; dropped = b .dropped ++ droppedRow token reason (b .tree .leaves) };
     }

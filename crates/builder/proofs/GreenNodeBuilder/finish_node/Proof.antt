@@ -1,0 +1,16 @@
+-- `GreenNodeBuilder::finish_node` meets its contract: a finish row stands behind the others, or nothing was done. Assumes nothing.
+use borrow.Author.Needs.{needs}
+use Rattle.builder.proofs.Laws.{finish-full, finished}
+use Rattle.builder.proofs.GreenNodeBuilder.finish_node.Statement.{statement}
+use Rattle.builder.proofs.GreenNodeBuilder.finish_node.Tie as tie
+
+returns : tie.Need-returns
+returns c = finish-full _ _ (c .if1 .taken) _ _ _
+
+returns-2 : tie.Need-returns-2
+returns-2 c = finished _ _ _ (c .before .before .before .before .before .before .if1 .left) _ _ _ (c .before .before .before .before .put .ensures)
+
+pub finish-node-spec : {M : Type 1} → statement M
+finish-node-spec =
+    tie.close
+    (tie.spec returns (λ c κs. search needs) (λ c. search needs) (λ c. search needs) (λ c. search needs) (λ c. search needs) returns-2)

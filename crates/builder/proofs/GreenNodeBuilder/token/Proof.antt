@@ -1,0 +1,16 @@
+-- `GreenNodeBuilder::token` meets its contract: a leaf's row stands behind the others, or nothing was done. Assumes nothing.
+use borrow.Author.Needs.{needs}
+use Rattle.builder.proofs.Laws.{leaf-full, leafed}
+use Rattle.builder.proofs.GreenNodeBuilder.token.Statement.{statement}
+use Rattle.builder.proofs.GreenNodeBuilder.token.Tie as tie
+
+returns : tie.Need-returns
+returns c = leaf-full _ _ (c .if1 .taken) _ _ _ _
+
+returns-2 : tie.Need-returns-2
+returns-2 c = leafed _ _ _ (c .before .before .before .before .before .before .if1 .left) _ _ _ _ (c .before .before .before .before .put .ensures)
+
+pub token-spec : {M : Type 1} → statement M
+token-spec =
+    tie.close
+    (tie.spec returns (λ c κs. search needs) (λ c. search needs) (λ c. search needs) (λ c. search needs) (λ c. search needs) returns-2)

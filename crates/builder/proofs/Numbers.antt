@@ -1,0 +1,86 @@
+-- Laws on rows in a list of numbers, over the width of a row: a row is written, rows move down, a row is put in. Assumes nothing.
+use mathlib.Core.Path.{_≡_, refl, sym, ap, ap₂, _∙_}
+use mathlib.Core.List.{List, [], _∷_, _++_, append-assoc, append-nil}
+use Prim.Native.Nat.{ℕ, suc, _+_, _*_, _-_, _≤_, _<_}
+use native.Mathlib.Nat.{suc-mul}
+use native.Mathlib.Numerals.{add-one}
+use native.Mathlib.Omega.{arith}
+use lib.ListN.{length, take, drop, set, getD, length-append, length-take, length-drop, List·getD-append}
+use lib.Seq.{sets, sets-eq, take-at, drop-at, take-take, take-length, take-suc, take-add, drop-drop, drop-cons, set-at, getD-take, length-take-le, slice-empty}
+use borrow.Rule.Slice.PartMut.{midOf, putMid, mid-len, drop-put}
+
+-- ---- a row is written
+
+pub next-row : (w r : ℕ) → (r + 1) * w ≡ r * w + w
+next-row w r = rw (add-one r) (suc-mul r w)
+
+pub two-on : (i : ℕ) → i + 2 ≡ suc (suc i)
+two-on i = omega arith
+
+pub three-on : (i : ℕ) → i + 3 ≡ suc (suc (suc i))
+three-on i = omega arith
+
+-- numbers stored one after the other
+pub stored : (row t : List ℕ) (i : ℕ) → i + length row ≤ length t → sets t i row ≡ take i t ++ (row ++ drop (i + length row) t)
+stored row t i fit = sets-eq row t i fit ∙ append-assoc (take i t) row (drop (i + length row) t)
+
+-- a row stands behind the first r rows of t in v
+module _ (w r : ℕ) (t v row : List ℕ) (wide : length row ≡ w) (fit : r * w + w ≤ length t) (e : v ≡ take (r * w) t ++ (row ++ drop (r * w + w) t)) where
+  before-it : length (take (r * w) t ++ row) ≡ r * w + w
+  before-it =
+      let front : length (take (r * w) t) ≡ r * w = length-take-le (r * w) t (omega arith) in
+      let both = length-append (take (r * w) t) row in
+      omega arith
+
+  as-two : v ≡ (take (r * w) t ++ row) ++ drop (r * w + w) t
+  as-two = e ∙ sym (append-assoc (take (r * w) t) row (drop (r * w + w) t))
+
+  pub one-more : take (r * w) t ++ row ≡ take ((r + 1) * w) v
+  one-more = rw (next-row w r, as-two) (sym (take-at (take (r * w) t ++ row) (drop (r * w + w) t) (r * w + w) before-it))
+
+  pub the-rest : drop ((r + 1) * w) v ≡ drop ((r + 1) * w) t
+  the-rest = rw (next-row w r, as-two) (drop-at (take (r * w) t ++ row) (drop (r * w + w) t) (r * w + w) before-it)
+
+-- ---- all but the last `by` numbers move down by so many, from the end on
+
+-- what stands there when all from i on have moved
+abbrev pub shifted : List ℕ → ℕ → ℕ → List ℕ
+shifted l by i = take i l ++ drop (i - by) (take (length l - by) l)
+
+pub shift-none : (l : List ℕ) (by : ℕ) → l ≡ shifted l by (length l)
+shift-none l by = rw (slice-empty (length l - by) l, take-length l, append-nil l)
+
+shift-one : (l m : List ℕ) (j n : ℕ) → j < length l → n < length m → n ≤ j → getD m n 0 ≡ getD l n 0
+    → set (take (suc j) l ++ drop (suc n) m) j (getD (take (suc j) l ++ drop (suc n) m) n 0) ≡ take j l ++ drop n m
+shift-one l m j n hj hn le e =
+    let long : length (take (suc j) l) ≡ suc j = length-take-le (suc j) l hj in
+    let x : getD (take (suc j) l ++ drop (suc n) m) n 0 ≡ getD m n 0 =
+    List·getD-append (take (suc j) l) (drop (suc n) m) 0 n (omega arith) ∙ getD-take (suc j) l n 0 (omega arith) ∙ sym e in
+    rw (x, take-suc l j 0 hj, append-assoc (take j l) (getD l j 0 ∷ []) (drop (suc n) m), set-at (take j l) (getD l j 0) (drop (suc n) m) (getD m n 0) j (length-take-le j l (omega arith)), drop-cons m n 0 hn)
+
+pub shift-more : (l p : List ℕ) (by i : ℕ) → by < i → i ≤ length l → p ≡ shifted l by i → set p (i - 1) (getD p (i - 1 - by) 0) ≡ shifted l by (i - 1)
+shift-more l p by i lo hi e =
+    let m = take (length l - by) l in
+    let long : length m ≡ length l - by = length-take-le (length l - by) l (omega arith) in
+    let up : i ≡ suc (i - 1) = omega arith in
+    let over : i - by ≡ suc (i - 1 - by) = omega arith in
+    let q : p ≡ take (suc (i - 1)) l ++ drop (suc (i - 1 - by)) m = e ∙ ap₂ (λ (a b : ℕ). take a l ++ drop b m) up over in
+    rw q (shift-one l m (i - 1) (i - 1 - by) (omega arith) (omega arith) (omega arith) (getD-take (length l - by) l (i - 1 - by) 0 (omega arith)))
+
+pub shift-all : (l p : List ℕ) (by i : ℕ) → i ≤ by → by ≤ i → p ≡ shifted l by i → p ≡ take by l ++ take (length l - by) l
+shift-all l p by i hi lo e =
+    let same : i ≡ by = omega arith in
+    let none : by - by ≡ 0 = omega arith in
+    rw none at (rw same at e)
+
+pub length-shifted : (l p : List ℕ) (by i : ℕ) → i ≤ length l → by ≤ i → p ≡ shifted l by i → length p ≡ length l
+length-shifted l p by i h lo e =
+    rw e (simp (length-append, length-take, length-drop) (omega arith))
+
+-- ---- a row in front of a part
+
+-- a row written over the first numbers, which stay where all others move down
+pub in-front : (l p v row : List ℕ) (w : ℕ) → w ≤ length l → p ≡ take w l ++ take (length l - w) l → v ≡ row ++ drop w p → v ≡ row ++ take (length l - w) l
+in-front l p v row w le moved e =
+    let front : length (take w l) ≡ w = length-take-le w l le in
+    e ∙ rw moved (ap (λ (x : List ℕ). row ++ x) (drop-at (take w l) (take (length l - w) l) w front))

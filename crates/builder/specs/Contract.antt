@@ -1,0 +1,40 @@
+-- What the contracts of the builder's functions say.
+use Prim.Native.Nat.{ℕ, _+_, _*_, _≤_, _<_}
+use mathlib.Core.Path.{_≡_}
+use mathlib.Core.List.{List}
+use lib.ListN.{length, drop}
+use Rattle.rules.specs.Limits
+use Rattle.rules.specs.Flat.{Rows}
+use Rattle.rules.specs.Outcome.{Out}
+use Rattle.builder.specs.declared.Checkpoint.{Checkpoint}
+use Rattle.builder.specs.declared.GreenNodeBuilder.{GreenNodeBuilder}
+use Rattle.builder.specs.declared.Built.{Built}
+use Rattle.builder.specs.declared.Built.the-variants.{Went, Refused}
+use Rattle.builder.specs.Stands.{outOf}
+
+-- the rows lie in the buffer, and nothing is counted that is no row
+pub record Fits (b : GreenNodeBuilder) (t : List ℕ) : Type 0 where
+  pub room : b .rows * Limits.treeWidth ≤ length t
+  pub leaves : b .leaves ≤ b .rows
+  pub children : b .children ≤ b .rows
+
+-- a node is open
+pub record Within (b : GreenNodeBuilder) : Type 0 where
+  pub depth : 0 < b .depth
+  pub first : b .first ≤ b .node
+  pub node : b .node < b .rows
+
+-- a mark was made when there were no more rows than now
+pub record Inside (m : Checkpoint) (b : GreenNodeBuilder) : Type 0 where
+  pub children : m .children ≤ m .row
+  pub row : m .row ≤ b .rows
+
+-- what a call leaves in the buffer: behind the new rows all is as it was, and a refused call changes nothing
+abbrev pub Leaves : Built → List ℕ → List ℕ → Type 0
+Leaves (Went b) t v = drop (b .rows * Limits.treeWidth) v ≡ drop (b .rows * Limits.treeWidth) t
+Leaves (Refused number place) t v = v ≡ t
+
+-- the contract of an operation: what the rule wants of a buffer of that length is what the answer and the buffer at exit stand for
+pub record Did (want : ℕ → Out Rows) (t : List ℕ) (r : Built) (v : List ℕ) : Type 0 where
+  pub is : want (length t) ≡ outOf r v
+  pub rest : Leaves r t v

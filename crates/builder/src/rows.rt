@@ -1,0 +1,42 @@
+// Rows in a buffer of numbers: one is written, and all from one on move down to make room for another.
+ghost use mathlib.Core.Path.{_≡_};
+ghost use Prim.Native.Nat.{_+_, _*_, _-_, _≤_};
+ghost use mathlib.Core.List.{[], _∷_, _++_};
+ghost use lib.ListN.{length, take, drop};
+ghost use Rattle.rules.specs.Limits.{treeWidth};
+ghost use Rattle.rules.specs.Flat.{startRow};
+use syntax::Limits;
+use syntax::Tag;
+
+// A row is written over what stands there.
+pub fn put(tree: &mut [u32], row: usize, tag: u32, kind: u32, start: u32, size: u32)
+    requires { ⌜ row * treeWidth + treeWidth ≤ length (now tree) ⌝ }
+    ensures { λ _. ⌜ now (tree .exit) ≡ take (row * treeWidth) (now (tree .entry)) ++ ((tag ∷ kind ∷ start ∷ size ∷ []) ++ drop (row * treeWidth + treeWidth) (now (tree .entry))) ⌝ }
+{
+    let at = row * Limits::TREE_WIDTH;
+    tree[at] = tag;
+    tree[at + 1] = kind;
+    tree[at + 2] = start;
+    tree[at + 3] = size;
+}
+
+// All but the last `by` numbers move down by so many; the first `by` stay.
+fn shift(part: &mut [u32], by: usize)
+    requires { ⌜ by ≤ length (now part) ⌝ }
+    ensures { λ _. ⌜ now (part .exit) ≡ take by (now (part .entry)) ++ take (length (now (part .entry)) - by) (now (part .entry)) ⌝ }
+{
+    let mut i = part.len();
+    while by < i {
+        i = i - 1;
+        part[i] = part[i - by];
+    }
+}
+
+// A start row goes in front of the rows of a part, whose last row's place is free.
+pub fn insert_start(part: &mut [u32], kind: u32)
+    requires { ⌜ treeWidth ≤ length (now part) ⌝ }
+    ensures { λ _. ⌜ now (part .exit) ≡ startRow kind ++ take (length (now (part .entry)) - treeWidth) (now (part .entry)) ⌝ }
+{
+    shift(part, Limits::TREE_WIDTH);
+    put(part, 0, Tag::START, kind, 0, 0);
+}
