@@ -1,6 +1,8 @@
 //! Verdict tables for glob shapes, made by asking `glob_match_prefix`.
 
+use std::cell::RefCell;
 use std::collections::HashMap;
+use std::rc::Rc;
 
 use mitex_glob::glob_match_prefix;
 use sheet::State;
@@ -57,29 +59,52 @@ impl Verdicts {
     }
 
     fn add(&mut self, glob: &str) {
-        if self.firsts.contains_key(glob) {
-            return;
-        }
-        let base = self.states.len();
-        self.firsts.insert(glob.to_owned(), base as u32 + 1);
-        let ahead = look_ahead(glob);
-        let mut known = HashMap::from([(outlook(glob, "", ahead), base as u32 + 1)]);
-        let mut strings = vec![String::new()];
-        while let Some(string) = strings.get(self.states.len() - base).cloned() {
-            let mut row = [0; 3];
-            for (next, letter) in row.iter_mut().zip(LETTERS) {
-                let longer = format!("{string}{letter}");
-                if glob_match_prefix(glob, &longer) {
-                    let fresh = (base + strings.len()) as u32 + 1;
-                    *next = *known.entry(outlook(glob, &longer, ahead)).or_insert(fresh);
-                    if *next == fresh {
-                        strings.push(longer);
-                    }
-                }
-            }
-            self.states.push(row);
+        let base = self.states.len() as u32;
+        if !self.firsts.contains_key(glob) {
+            self.firsts.insert(glob.to_owned(), base + 1);
+            let moved = |next: u32| if next == 0 { 0 } else { base + next };
+            let table = table(glob);
+            self.states.extend(table.iter().map(|row| row.map(moved)));
         }
     }
+}
+
+thread_local! {
+    /// Tables that were made before: formulas by the thousand have the same globs.
+    static MADE: RefCell<HashMap<String, Rc<[State]>>> = RefCell::default();
+}
+
+fn table(glob: &str) -> Rc<[State]> {
+    let made = MADE.with_borrow(|made| made.get(glob).cloned());
+    made.unwrap_or_else(|| {
+        let table: Rc<[State]> = made_table(glob).into();
+        MADE.with_borrow_mut(|made| made.insert(glob.to_owned(), table.clone()));
+        table
+    })
+}
+
+/// A glob's table by itself, its first state 1. Each state has a string that leads to
+/// it; another string that promises the same leads to the same state.
+fn made_table(glob: &str) -> Vec<State> {
+    let ahead = look_ahead(glob);
+    let mut known = HashMap::from([(outlook(glob, "", ahead), 1)]);
+    let mut strings = vec![String::new()];
+    let mut states = Vec::new();
+    while let Some(string) = strings.get(states.len()).cloned() {
+        let mut row = [0; 3];
+        for (next, letter) in row.iter_mut().zip(LETTERS) {
+            let longer = format!("{string}{letter}");
+            if glob_match_prefix(glob, &longer) {
+                let fresh = strings.len() as u32 + 1;
+                *next = *known.entry(outlook(glob, &longer, ahead)).or_insert(fresh);
+                if *next == fresh {
+                    strings.push(longer);
+                }
+            }
+        }
+        states.push(row);
+    }
+    states
 }
 
 /// The verdicts on all strings that begin with this one, some letters ahead. A string

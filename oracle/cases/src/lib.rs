@@ -1,0 +1,24 @@
+//! Generated formulas, and the recorded list that is replayed without Rust at hand.
+
+mod arguments;
+mod case;
+mod count;
+mod damage;
+pub mod dice;
+mod grammar;
+mod limits;
+mod list;
+mod named;
+mod notation;
+mod parts;
+mod sequences;
+mod stream;
+
+pub use case::{read_list, write_list, Case};
+pub use count::Counts;
+pub use list::{recorded_list, SEED};
+pub use named::{comment_formulas, paper_formulas, Formula};
+pub use notation::notation;
+pub use parts::used_shapes;
+pub use sequences::all as all_sequences;
+pub use stream::{by_chance, usual};

@@ -1,0 +1,27 @@
+//! The slips that look right, as switches.
+
+/// One of document 01's 'Slips that look right'. A run with a slip is wrong on purpose:
+/// a list of cases is good if it tells each of them from the rules.
+#[derive(Debug, Clone, Copy, PartialEq, Eq)]
+pub enum Slip {
+    /// Last is saved before it is cleared, so it comes back after the arguments.
+    SaveLastFirst,
+    /// A wrap at a mark equal to the open node's first child stays outside the node.
+    WrapOutside,
+    /// `}` ends a script that is still empty.
+    CurlyStopsScript,
+    /// Range 0 counts as no shape.
+    RangeZeroIsNone,
+    /// Only `\iffalse` counts as an opener in a skipped body.
+    OnlyIfFalseNests,
+}
+
+impl Slip {
+    pub const ALL: [Slip; 5] = [
+        Slip::SaveLastFirst,
+        Slip::WrapOutside,
+        Slip::CurlyStopsScript,
+        Slip::RangeZeroIsNone,
+        Slip::OnlyIfFalseNests,
+    ];
+}
