@@ -1,13 +1,15 @@
 //! The plain build of the parser: the Rust's own answer.
 
-use mitex_parser::syntax::{SyntaxElement, SyntaxNode};
+use mitex_parser::syntax::{FormulaItem, SyntaxElement, SyntaxNode};
 use mitex_parser::Parser;
 use mitex_spec::CommandSpec;
+use rowan::ast::AstNode;
 use rowan::{NodeOrToken, WalkEvent};
 use sheet::{FINISH, LEAF, START};
 
 use crate::fault::{message, End, Fault};
 use crate::quiet::catch;
+use crate::Spec;
 
 /// A row of the plain tree: tag, kind and a leaf's text.
 pub type PlainRow = (u32, u32, String);
@@ -31,6 +33,17 @@ pub(crate) fn tree(text: &str, spec: CommandSpec) -> Result<Tree, Fault> {
             other => Err(Fault::Parser(other.to_owned())),
         },
     }
+}
+
+/// The formulas of a tree in its order, and for each whether the Rust calls it a
+/// display formula, an inline formula, valid.
+pub fn formula_questions(text: &str, spec: &Spec) -> Vec<[bool; 3]> {
+    let green = Parser::new(text, spec.command_spec()).parse();
+    let formulas = SyntaxNode::new_root(green).descendants();
+    formulas
+        .filter_map(FormulaItem::cast)
+        .map(|item| [item.is_display(), item.is_inline(), item.is_valid()])
+        .collect()
 }
 
 fn rows(root: &SyntaxNode) -> Vec<PlainRow> {

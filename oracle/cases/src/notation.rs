@@ -1,24 +1,28 @@
 //! Trees as document 01 writes them: `Root[Attach[Arg[Text[a]] _ b]]`.
 
-use sheet::{Row, LEAF, START};
+use sheet::{Row, FINISH, START};
 
-/// The tree of some rows over a text.
+/// The tree of some rows over a text. A blank is written as `␣`.
 pub fn notation(text: &str, rows: &[Row]) -> String {
     let mut tree = String::new();
+    // Whether the row is the first one in its node.
+    let mut first = true;
     for row in rows {
-        if row.tag <= LEAF && !tree.is_empty() && !tree.ends_with('[') {
+        if row.tag != FINISH && !first {
             tree.push(' ');
         }
         match row.tag {
-            START => {
-                tree += node_name(row.kind);
-                tree.push('[');
-            }
-            LEAF => tree += &text[row.start as usize..(row.start + row.len) as usize],
-            _ => tree.push(']'),
+            START => tree += &format!("{}[", node_name(row.kind)),
+            FINISH => tree.push(']'),
+            _ => tree += &part(text, row).replace(' ', "␣"),
         }
+        first = row.tag == START;
     }
     tree
+}
+
+fn part<'t>(text: &'t str, row: &Row) -> &'t str {
+    &text[row.start as usize..(row.start + row.len) as usize]
 }
 
 fn node_name(kind: u32) -> &'static str {

@@ -9,12 +9,14 @@ mod checks;
 mod items;
 mod kinds;
 mod matcher;
+mod questions;
 mod reader;
 mod refusal;
 mod rows;
 mod slip;
 mod stops;
 
+pub use questions::{is_display, is_inline, is_valid};
 pub use refusal::Refusal;
 pub use slip::Slip;
 

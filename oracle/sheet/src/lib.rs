@@ -3,8 +3,10 @@
 
 mod answer;
 mod bytes;
+mod listing;
 mod tables;
 
 pub use answer::{Answer, Dropped, Row, FINISH, LEAF, START};
 pub use bytes::Bytes;
+pub use listing::listing;
 pub use tables::{Shape, State, Tables, Token};

@@ -7,7 +7,7 @@
 use std::process::ExitCode;
 
 use answers::{names, with_deep_stack, Run, Spec};
-use sheet::{Answer, LEAF, START};
+use sheet::{listing, Answer, LEAF, START};
 use tape::Write;
 
 struct Asked {
@@ -53,13 +53,12 @@ fn show(asked: &Asked) -> Result<(), String> {
     let run = Run::of(&asked.formula, &asked.spec).map_err(|fault| fault.to_string())?;
     let answer = run.answer(asked.room);
     if asked.treelist {
-        treelist(&answer);
+        print!("{}", listing(&answer));
         return Ok(());
     }
     tables(&asked.formula, &run, &asked.spec);
     writes(&asked.formula, &run);
-    println!("\nanswer");
-    treelist(&answer);
+    print!("\nanswer\n{}", listing(&answer));
     if let Answer::Accepted { .. } = answer {
         println!("\ntree");
         tree(&asked.formula, &run);
@@ -116,27 +115,6 @@ fn writes(formula: &str, run: &Run) {
         println!("{index:5}  {place:5}  {row}");
     }
     println!("\nmost nodes open: {}", run.deepest);
-}
-
-/// As the program `treelist` prints.
-fn treelist(answer: &Answer) {
-    let (rows, dropped) = match answer {
-        Answer::Accepted { rows, dropped } => (rows, dropped),
-        Answer::Refused { number, place } => return println!("refused {number} {place}"),
-    };
-    println!("ok {} {}", rows.len(), dropped.len());
-    let mut depth = 0;
-    for row in rows {
-        match row.tag {
-            START => println!("{depth} {}", row.kind),
-            LEAF => println!("{depth} {} {} {}", row.kind, row.start, row.len),
-            _ => depth -= 1,
-        }
-        depth += i32::from(row.tag == START);
-    }
-    for d in dropped {
-        println!("d {} {} {}", d.token, d.reason, d.leaves);
-    }
 }
 
 fn tree(formula: &str, run: &Run) {

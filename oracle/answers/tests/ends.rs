@@ -1,0 +1,68 @@
+//! The ways in which the Rust ends are told apart, and so are its lexer's.
+
+use answers::{with_deep_stack, End, Fault, Run, Spec, Verdicts};
+use sheet::Answer;
+
+fn run(text: &str, shapes: &str) -> Result<Run, Fault> {
+    Run::of(text, &shapes.parse::<Spec>().expect("shapes"))
+}
+
+#[test]
+fn a_panic_of_the_lexer_is_its_own() {
+    let fault = run("\\begin%\n%\n\u{3000}{a}", "").expect_err("the lexer panics");
+    assert!(matches!(fault, Fault::Lexer(_)), "{fault}");
+}
+
+#[test]
+fn refusal_5_is_the_parser_s_assertion() {
+    let run = run("1\\begin{h}2", "h=env-greedy").expect("an answer");
+    assert_eq!((run.end, run.end_place), (End::GreedyEnvironment, 2));
+}
+
+#[test]
+fn refusal_6_is_rowan_s_assertion() {
+    let run = run("{1}{2}_\\o", "o=infix").expect("an answer");
+    assert_eq!((run.end, run.end_place), (End::MarkBeforeNode, 7));
+}
+
+#[test]
+fn too_little_room_comes_before_5() {
+    let run = run("\\begin{h}", "h=env-greedy").expect("an answer");
+    let refused = |number, place| Answer::Refused { number, place };
+    assert_eq!(run.answer(3), refused(8, 0));
+    assert_eq!(run.answer(4), refused(5, 1));
+}
+
+#[test]
+fn six_comes_before_seven_before_eight() {
+    let refused = |number, place| Answer::Refused { number, place };
+    let deep = "{".repeat(128);
+    let run = run(&deep, "").expect("an answer");
+    let rows = run.too_deep.expect("a 129th node");
+    assert_eq!(run.answer(rows), refused(7, 127));
+    assert_eq!(run.answer(rows - 1), refused(8, 126));
+}
+
+#[test]
+fn held_trivia_that_is_left_counts_as_read() {
+    let run = run("\\f {1} %c\n_", "f=fixed2").expect("an answer");
+    let places: Vec<usize> = run.writes.iter().map(|&(_, place)| place).collect();
+    // The command's finish, the three held leaves, and of the script the wrap's two
+    // openings, its inner finish and the underscore.
+    assert_eq!(places[12..], [8, 8, 8, 8, 8, 8, 8, 8, 9, 9]);
+}
+
+#[test]
+fn verdicts_of_the_paper_s_glob() {
+    let spec: Spec = "s=glob:{,b}t".parse().expect("shapes");
+    let verdicts = Verdicts::of(&spec);
+    assert_eq!(verdicts.first("{,b}t"), 1);
+    assert_eq!(verdicts.states, [[2, 3, 0], [0, 0, 0], [2, 0, 0]]);
+}
+
+#[test]
+fn as_many_nodes_as_a_text_opens() {
+    let deep = "{".repeat(3_000);
+    let deepest = with_deep_stack(move || run(&deep, "").map(|run| run.deepest));
+    assert_eq!(deepest, Ok(3_001));
+}

@@ -1,0 +1,85 @@
+//! The recorded list in the repository: how it is made, what it reaches, and that it
+//! replays.
+
+use std::path::Path;
+
+use answers::with_deep_stack;
+use cases::{read_list, recorded_list, write_list, Case, Counts, SEED};
+use model::Slip;
+use sheet::Answer;
+
+fn file() -> Vec<u8> {
+    let data = Path::new(env!("CARGO_MANIFEST_DIR")).join("../../crates/cases/data");
+    std::fs::read(data.join("cases.bin")).expect("the recorded list")
+}
+
+fn replayed(case: &Case, slip: Option<Slip>) -> Answer {
+    model::answer(&case.tables, case.room as usize, slip)
+}
+
+#[test]
+fn the_same_seed_gives_the_same_bytes() {
+    let made = || with_deep_stack(|| write_list(&recorded_list(SEED)));
+    let first = made();
+    assert!(first == made(), "two recordings differ");
+    assert!(first == file(), "the file is not what its seed gives");
+}
+
+#[test]
+fn it_replays_with_the_model() {
+    for (number, case) in read_list(&file()).iter().enumerate() {
+        assert_eq!(replayed(case, None), case.answer, "case {number}");
+    }
+}
+
+#[test]
+fn its_bytes_are_within_their_limits() {
+    let bytes = file();
+    let cases = read_list(&bytes);
+    assert!(bytes.len() <= 3_000_000 && cases.len() >= 3_000);
+    assert!(write_list(&cases) == bytes, "reading and writing again");
+    for case in &cases {
+        assert!(case.tables.sheet().len() <= 32_768);
+        assert!(write_list(std::slice::from_ref(case)).len() <= 65_536);
+        if let Answer::Accepted { rows, .. } = &case.answer {
+            assert!(rows.len() <= 4_096 && rows.len() <= case.room as usize / 4);
+        }
+    }
+}
+
+#[test]
+fn it_reaches_every_kind_form_scope_and_refusal() {
+    let counts = Counts::of(&read_list(&file()));
+    assert_eq!(counts.token_kinds.len(), 38, "all kinds but 24 and 25");
+    assert_eq!(
+        counts.forms.len(),
+        7 + 5 + 1,
+        "two classes, and shapes not looked at"
+    );
+    assert_eq!(counts.scopes.len(), 8);
+    assert_eq!(counts.reasons.len(), 3);
+    let answers: Vec<&str> = counts.answers.keys().map(String::as_str).collect();
+    let expected = [
+        "accepted",
+        "refused 5",
+        "refused 6",
+        "refused 7",
+        "refused 8",
+    ];
+    assert_eq!(answers, expected);
+}
+
+#[test]
+fn it_tells_every_slip() {
+    let cases = read_list(&file());
+    for slip in Slip::ALL {
+        let told = cases.iter().filter(|case| {
+            let wrong = std::panic::catch_unwind(|| replayed(case, Some(slip)));
+            wrong.map_or(true, |wrong| wrong != case.answer)
+        });
+        assert!(
+            told.count() > 0,
+            "{slip:?} gives the same answers everywhere"
+        );
+    }
+}
