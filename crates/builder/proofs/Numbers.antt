@@ -84,3 +84,34 @@ pub in-front : (l p v row : List ℕ) (w : ℕ) → w ≤ length l → p ≡ tak
 in-front l p v row w le moved e =
     let front : length (take w l) ≡ w = length-take-le w l le in
     e ∙ rw moved (ap (λ (x : List ℕ). row ++ x) (drop-at (take w l) (take (length l - w) l) w front))
+
+-- ---- a row is put in: the part from x on was lent, with the place for one row more behind the first y numbers
+
+module _ (x y w : ℕ) (t part row : List ℕ) (low : x ≤ y) (fit : y + w ≤ length t) (wide : length row ≡ w)
+    (e : part ≡ row ++ take (length (midOf x (y + w - x) t) - w) (midOf x (y + w - x) t)) where
+  part-is : part ≡ row ++ drop x (take y t)
+  part-is =
+      let long : length (midOf x (y + w - x) t) ≡ y + w - x = mid-len x (y + w) t fit in
+      let short : length (midOf x (y + w - x) t) - w ≡ y - x = omega arith in
+      let whole : x + (y - x) ≡ y = omega arith in
+      let front : length (take x t) ≡ x = length-take-le x t (omega arith) in
+      let tail : drop x (take y t) ≡ take (y - x) (drop x t) =
+      rw (← whole) (rw (take-add x (y - x) t, drop-at (take x t) (take (y - x) (drop x t)) x front, whole)) in
+      e ∙ ap (λ (l : List ℕ). row ++ l) (ap (λ (n : ℕ). take n (midOf x (y + w - x) t)) short ∙ take-take (y - x) (y + w - x) (drop x t) (omega arith) ∙ sym tail)
+
+  part-long : length part ≡ y + w - x
+  part-long =
+      let long : length (take y t) ≡ y = length-take-le y t (omega arith) in
+      let drops : length (drop x (take y t)) ≡ length (take y t) - x = length-drop x (take y t) in
+      let both : length (row ++ drop x (take y t)) ≡ length row + length (drop x (take y t)) = length-append row (drop x (take y t)) in
+      rw part-is (omega arith)
+
+  pub inserted : take x (take y t) ++ (row ++ drop x (take y t)) ≡ take (y + w) (putMid x (y + w - x) t part)
+  inserted =
+      let behind-it = drop (y + w - x) (drop x t) in
+      let front : length (take x t) ≡ x = length-take-le x t (omega arith) in
+      let both : length (take x t ++ part) ≡ y + w = length-append (take x t) part ∙ (let p = part-long in omega arith) in
+      rw (take-take x y t low, ← part-is) (sym (rw (← append-assoc (take x t) part behind-it) (take-at (take x t ++ part) behind-it (y + w) both)))
+
+  pub behind : drop (y + w) (putMid x (y + w - x) t part) ≡ drop (y + w) t
+  behind = drop-put x (y + w) t part (omega arith) fit part-long

@@ -4,13 +4,13 @@ use mathlib.Core.Path.{_≡_}
 use mathlib.Core.List.{List}
 use lib.ListN.{length, drop}
 use Rattle.rules.specs.Limits
-use Rattle.rules.specs.Flat.{Rows}
+use Rattle.rules.specs.Flat.{Rows, startedAt, startAtRow}
 use Rattle.rules.specs.Outcome.{Out}
 use Rattle.builder.specs.declared.Checkpoint.{Checkpoint}
 use Rattle.builder.specs.declared.GreenNodeBuilder.{GreenNodeBuilder}
 use Rattle.builder.specs.declared.Built.{Built}
 use Rattle.builder.specs.declared.Built.the-variants.{Went, Refused}
-use Rattle.builder.specs.Stands.{outOf}
+use Rattle.builder.specs.Stands.{rowsOf, markOf, outOf}
 
 -- the rows lie in the buffer, and nothing is counted that is no row
 pub record Fits (b : GreenNodeBuilder) (t : List ℕ) : Type 0 where
@@ -38,3 +38,21 @@ Leaves (Refused number place) t v = v ≡ t
 pub record Did (want : ℕ → Out Rows) (t : List ℕ) (r : Built) (v : List ℕ) : Type 0 where
   pub is : want (length t) ≡ outOf r v
   pub rest : Leaves r t v
+
+-- where a start row goes for a mark, and between which rows that is
+pub record StartRow (b : GreenNodeBuilder) (t : List ℕ) (m : Checkpoint) (row : ℕ) : Type 0 where
+  pub is : startAtRow (markOf m) (rowsOf b t) ≡ row
+  pub low : m .children ≤ row
+  pub high : row ≤ b .rows
+
+-- a node was opened at a mark: the rule's rows, and what a second opening there lives on
+pub record Opened (b : GreenNodeBuilder) (t : List ℕ) (kind : ℕ) (m : Checkpoint) (r : GreenNodeBuilder) (v : List ℕ) : Type 0 where
+  pub is : startedAt kind (markOf m) (rowsOf b t) ≡ rowsOf r v
+  pub rest : drop (r .rows * Limits.treeWidth) v ≡ drop (r .rows * Limits.treeWidth) t
+  pub rows : r .rows ≡ b .rows + 1
+  pub leaves : r .leaves ≡ b .leaves
+  pub depth : r .depth ≡ b .depth + 1
+  pub children : r .children ≡ b .children
+  pub first : r .first ≡ m .children
+  pub low : r .first ≤ r .node
+  pub high : r .node ≤ b .rows

@@ -1,12 +1,13 @@
 // Rows of a tree into a lent buffer, in the manner of rowan's GreenNodeBuilder: its numbers go in and come back by value, beside the buffer.
 // Each operation is handed the place, the first token not wholly read, and a refused one changes nothing.
 ghost use mathlib.Core.Path.{_≡_};
-ghost use Prim.Native.Nat.{_+_, _*_, _-_, _≤_, _<_};
-ghost use mathlib.Core.List.{[], _∷_, _++_};
-ghost use lib.ListN.{length, take, drop};
+ghost use Prim.Native.Nat.{_+_, _*_, _^_, _≤_, _<_};
+ghost use mathlib.Core.List.{[]};
+ghost use lib.ListN.{length};
+ghost use Rattle.rules.specs.Limits.{treeWidth, nodes};
 ghost use Rattle.rules.specs.Flat as flat;
 ghost use Rattle.builder.specs.Stands.{rowsOf, markOf, frameOf};
-ghost use Rattle.builder.specs.Contract.{Fits, Within, Inside, Did};
+ghost use Rattle.builder.specs.Contract.{Fits, Within, Inside, Did, StartRow, Opened};
 
 mod dropped;
 mod rows;
@@ -136,5 +137,62 @@ impl GreenNodeBuilder {
         next.first = parent.first;
         next.node = parent.node;
         Built::Went(next)
+    }
+
+    // The row where a node that begins at a mark starts: behind the open node's own start row where the mark is at its first child.
+    fn start_row(self, at: Checkpoint) -> usize
+        requires { ⌜ Within self × Inside at self × (self .rows < 2 ^ 62) ⌝ }
+        ensures { λ r. ⌜ StartRow self [] at r ⌝ }
+    {
+        if at.children == self.first {
+            self.node + 1
+        } else {
+            at.row
+        }
+    }
+
+    // A node begins at an earlier mark, where nothing refuses it: the rows from there on are lent on and move down.
+    fn open_at(self, tree: &mut [u32], kind: u32, at: Checkpoint) -> GreenNodeBuilder
+        requires { ⌜ Within self × Inside at self × (self .rows * treeWidth + treeWidth ≤ length (now tree)) × (self .depth < nodes) ⌝ }
+        ensures { λ r. ⌜ Opened self (now (tree .entry)) kind at r (now (tree .exit)) ⌝ }
+    {
+        let start = self.start_row(at);
+        let from = start * Limits::TREE_WIDTH;
+        let to = self.rows * Limits::TREE_WIDTH + Limits::TREE_WIDTH;
+        insert_start(&mut tree[from..to], kind);
+        let mut next = self;
+        next.rows = self.rows + 1;
+        next.depth = self.depth + 1;
+        next.first = at.children;
+        next.node = start;
+        next
+    }
+
+    // A wrap: a node begins at an earlier mark and stays open, and an argument inside it is closed around what stood there.
+    //   a_b   the `_` wraps the text: Attach[Arg[Text a] ..
+    pub fn wrap(self, tree: &mut [u32], place: usize, kind: u32, at: Checkpoint) -> Built
+        requires { ⌜ Fits self (now tree) × Within self × Inside at self ⌝ }
+        ensures { λ r. ⌜ Did (λ n. flat.wrap n place kind (markOf at) (rowsOf self (now (tree .entry)))) (now (tree .entry)) r (now (tree .exit)) ⌝ }
+    {
+        if at.children < self.first {
+            return Built::Refused(Refusal::MARK_BEFORE_NODE, place);
+        }
+        if Limits::NODES <= self.depth {
+            return Built::Refused(Refusal::TOO_MANY_OPEN, place);
+        }
+        let room = tree.len() / Limits::TREE_WIDTH;
+        if room <= self.rows {
+            return Built::Refused(Refusal::NO_ROOM, place);
+        }
+        // The argument's own opening is judged by itself.
+        if Limits::NODES <= self.depth + 1 {
+            return Built::Refused(Refusal::TOO_MANY_OPEN, place);
+        }
+        if room <= self.rows + 2 {
+            return Built::Refused(Refusal::NO_ROOM, place);
+        }
+        let outer = self.open_at(tree, kind, at);
+        let inner = outer.open_at(tree, SyntaxKind::CLAUSE_ARGUMENT, at);
+        inner.finish_node(tree, place, SyntaxKind::CLAUSE_ARGUMENT, outer.frame())
     }
 }

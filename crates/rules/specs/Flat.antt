@@ -20,7 +20,7 @@ abbrev pub tagFinish : ℕ
 tagFinish = 2
 
 abbrev pub leafRow : ℕ → ℕ → ℕ → List ℕ
-leafRow kind start size = tagLeaf ∷ kind ∷ start ∷ size ∷ []
+leafRow kind from size = tagLeaf ∷ kind ∷ from ∷ size ∷ []
 
 abbrev pub startRow : ℕ → List ℕ
 startRow kind = tagStart ∷ kind ∷ 0 ∷ 0 ∷ []
@@ -61,22 +61,53 @@ orNoRoom room place b go = cond (ltb (b .rows) (room / Limits.treeWidth)) go (re
 abbrev pub orTooManyOpen : ℕ → Rows → Out Rows → Out Rows
 orTooManyOpen place b go = cond (leb Limits.nodes (b .depth)) (refused tooManyOpen place) go
 
+-- a leaf is one finished child more of the innermost open node
+unfoldable pub leafed : ℕ → ℕ → ℕ → Rows → Rows
+leafed kind from size b =
+    record {
+      rows = b .rows + 1;
+      leaves = b .leaves + 1;
+      depth = b .depth;
+      children = b .children + 1;
+      first = b .first;
+      node = b .node;
+      tree = b .tree ++ leafRow kind from size;
+    }
+
 unfoldable pub leaf : ℕ → ℕ → ℕ → ℕ → ℕ → Rows → Out Rows
-leaf room place kind start size b =
-    orNoRoom room place b
-    (went (record { rows = b .rows + 1; leaves = b .leaves + 1; depth = b .depth; children = b .children + 1; first = b .first; node = b .node; tree = b .tree ++ leafRow kind start size }))
+leaf room place kind from size b = orNoRoom room place b (went (leafed kind from size b))
+
+-- a node begins here: what comes next is its first child
+unfoldable pub started : ℕ → Rows → Rows
+started kind b =
+    record {
+      rows = b .rows + 1;
+      leaves = b .leaves;
+      depth = b .depth + 1;
+      children = b .children;
+      first = b .children;
+      node = b .rows;
+      tree = b .tree ++ startRow kind;
+    }
 
 unfoldable pub start : ℕ → ℕ → ℕ → Rows → Out Rows
-start room place kind b =
-    orTooManyOpen place b
-    (orNoRoom room place b
-    (went (record { rows = b .rows + 1; leaves = b .leaves; depth = b .depth + 1; children = b .children; first = b .children; node = b .rows; tree = b .tree ++ startRow kind })))
+start room place kind b = orTooManyOpen place b (orNoRoom room place b (went (started kind b)))
 
--- the node becomes one finished child of its parent
+-- the innermost open node ends, and becomes one finished child of its parent, whose frame is given back
+unfoldable pub finished : ℕ → Frame → Rows → Rows
+finished kind f b =
+    record {
+      rows = b .rows + 1;
+      leaves = b .leaves;
+      depth = b .depth - 1;
+      children = b .first + 1;
+      first = f .first;
+      node = f .node;
+      tree = b .tree ++ finishRow kind;
+    }
+
 unfoldable pub finish : ℕ → ℕ → ℕ → Frame → Rows → Out Rows
-finish room place kind f b =
-    orNoRoom room place b
-    (went (record { rows = b .rows + 1; leaves = b .leaves; depth = b .depth - 1; children = b .first + 1; first = f .first; node = f .node; tree = b .tree ++ finishRow kind }))
+finish room place kind f b = orNoRoom room place b (went (finished kind f b))
 
 -- where the start row of a node that begins at a mark goes: "a wrap at an open node's own first child goes inside that node", behind its start row
 unfoldable pub startAtRow : Mark → Rows → ℕ
@@ -90,13 +121,22 @@ insert row numbers tree = take (row * Limits.treeWidth) tree ++ (numbers ++ drop
 abbrev pub orMarkBeforeNode : ℕ → Mark → Rows → Out Rows → Out Rows
 orMarkBeforeNode place m b go = cond (ltb (m .children) (b .first)) (refused markBeforeNode place) go
 
+-- a node begins at a mark: what stood from there on is inside it
+unfoldable pub startedAt : ℕ → Mark → Rows → Rows
+startedAt kind m b =
+    record {
+      rows = b .rows + 1;
+      leaves = b .leaves;
+      depth = b .depth + 1;
+      children = b .children;
+      first = m .children;
+      node = startAtRow m b;
+      tree = insert (startAtRow m b) (startRow kind) (b .tree);
+    }
+
 -- "at one opening 6, then 7, then 8"
 unfoldable pub startAt : ℕ → ℕ → ℕ → Mark → Rows → Out Rows
-startAt room place kind m b =
-    orMarkBeforeNode place m b
-    (orTooManyOpen place b
-    (orNoRoom room place b
-    (went (record { rows = b .rows + 1; leaves = b .leaves; depth = b .depth + 1; children = b .children; first = m .children; node = startAtRow m b; tree = insert (startAtRow m b) (startRow kind) (b .tree) }))))
+startAt room place kind m b = orMarkBeforeNode place m b (orTooManyOpen place b (orNoRoom room place b (went (startedAt kind m b))))
 
 abbrev pub markOf : Rows → Mark
 markOf b = record { children = b .children; row = b .rows }

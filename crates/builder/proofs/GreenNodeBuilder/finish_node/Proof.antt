@@ -1,11 +1,13 @@
 -- `GreenNodeBuilder::finish_node` meets its contract: a finish row stands behind the others, or nothing was done. Assumes nothing.
+use mathlib.Core.Path.{refl}
+use Rattle.rules.proofs.Flat.{finish-full}
 use borrow.Author.Needs.{needs}
-use Rattle.builder.proofs.Laws.{finish-full, finished}
+use Rattle.builder.proofs.Laws.{finished}
 use Rattle.builder.proofs.GreenNodeBuilder.finish_node.Statement.{statement}
 use Rattle.builder.proofs.GreenNodeBuilder.finish_node.Tie as tie
 
 returns : tie.Need-returns
-returns c = finish-full _ _ (c .if1 .taken) _ _ _
+returns c = record { is = finish-full _ _ _ (c .if1 .taken) _ _; rest = refl }
 
 returns-2 : tie.Need-returns-2
 returns-2 c = finished _ _ _ (c .before .before .before .before .before .before .if1 .left) _ _ _ (c .before .before .before .before .put .ensures)

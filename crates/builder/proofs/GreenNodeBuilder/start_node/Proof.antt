@@ -1,14 +1,16 @@
 -- `GreenNodeBuilder::start_node` meets its contract: a start row stands behind the others, or nothing was done. Assumes nothing.
+use mathlib.Core.Path.{refl}
+use Rattle.rules.proofs.Flat.{start-deep, start-full}
 use borrow.Author.Needs.{needs}
-use Rattle.builder.proofs.Laws.{start-deep, start-full, started}
+use Rattle.builder.proofs.Laws.{started}
 use Rattle.builder.proofs.GreenNodeBuilder.start_node.Statement.{statement}
 use Rattle.builder.proofs.GreenNodeBuilder.start_node.Tie as tie
 
 returns : tie.Need-returns
-returns c = start-deep _ _ _ _ (c .if1 .taken)
+returns c = record { is = start-deep _ _ _ _ (c .if1 .taken); rest = refl }
 
 returns-2 : tie.Need-returns-2
-returns-2 c = start-full _ _ (c .if2 .taken) _ _ (c .before .if1 .left)
+returns-2 c = record { is = start-full _ _ _ (c .if2 .taken) _ (c .before .if1 .left); rest = refl }
 
 returns-3 : tie.Need-returns-3
 returns-3 c = started _ _ _ (c .before .before .before .before .before .if2 .left) _ _ (c .before .before .before .before .before .before .if1 .left) (c .before .before .before .put .ensures)

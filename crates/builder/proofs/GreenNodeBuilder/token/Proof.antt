@@ -1,11 +1,13 @@
 -- `GreenNodeBuilder::token` meets its contract: a leaf's row stands behind the others, or nothing was done. Assumes nothing.
+use mathlib.Core.Path.{refl}
+use Rattle.rules.proofs.Flat.{leaf-full}
 use borrow.Author.Needs.{needs}
-use Rattle.builder.proofs.Laws.{leaf-full, leafed}
+use Rattle.builder.proofs.Laws.{leafed}
 use Rattle.builder.proofs.GreenNodeBuilder.token.Statement.{statement}
 use Rattle.builder.proofs.GreenNodeBuilder.token.Tie as tie
 
 returns : tie.Need-returns
-returns c = leaf-full _ _ (c .if1 .taken) _ _ _ _
+returns c = record { is = leaf-full _ _ _ (c .if1 .taken) _ _ _; rest = refl }
 
 returns-2 : tie.Need-returns-2
 returns-2 c = leafed _ _ _ (c .before .before .before .before .before .before .if1 .left) _ _ _ _ (c .before .before .before .before .put .ensures)

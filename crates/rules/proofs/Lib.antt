@@ -1,0 +1,2 @@
+-- Theorems about the rules alone, and the laws by which other crates use their definitions.
+pub mod Flat
