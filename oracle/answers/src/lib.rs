@@ -16,7 +16,7 @@ mod tokens;
 mod verdicts;
 
 pub use fault::{End, Fault};
-pub use plain::{formula_questions, PlainRow, Tree};
+pub use plain::{formula_questions, plain_tree, PlainRow, Tree};
 pub use quiet::with_deep_stack;
 pub use run::Run;
 pub use spec::{Class, Form, Named, Spec};

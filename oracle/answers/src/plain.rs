@@ -2,7 +2,6 @@
 
 use mitex_parser::syntax::{FormulaItem, SyntaxElement, SyntaxNode};
 use mitex_parser::Parser;
-use mitex_spec::CommandSpec;
 use rowan::ast::AstNode;
 use rowan::{NodeOrToken, WalkEvent};
 use sheet::{FINISH, LEAF, START};
@@ -23,8 +22,9 @@ pub(crate) const GREEDY: &str = "GREEDY mismatched";
 /// What rowan's assertion of refusal 6 says.
 const UNMATCHED: &str = "checkpoint no longer valid, was an unmatched start_node_at called?";
 
-pub(crate) fn tree(text: &str, spec: CommandSpec) -> Result<Tree, Fault> {
-    let green = catch(|| Parser::new(text, spec).parse());
+/// The tree that the plain build gives, as rows, or how it panicked.
+pub fn plain_tree(text: &str, spec: &Spec) -> Result<Tree, Fault> {
+    let green = catch(|| Parser::new(text, spec.command_spec()).parse());
     match green {
         Ok(green) => Ok(Ok(rows(&SyntaxNode::new_root(green)))),
         Err(panic) => match message(&*panic).as_str() {

@@ -7,7 +7,7 @@ use tape::{MarkBeforeNode, Tape, Write};
 
 use crate::fault::{message, End, Fault};
 use crate::layout::layout;
-use crate::plain::{self, PlainRow};
+use crate::plain::{self, plain_tree, PlainRow, Tree};
 use crate::quiet::catch;
 use crate::{token_rows, Spec, Verdicts};
 
@@ -33,7 +33,7 @@ impl Run {
     pub fn of(text: &str, spec: &Spec) -> Result<Self, Fault> {
         let tokens = token_rows(text, spec)?;
         let verdicts = Verdicts::of(spec);
-        let plain = plain::tree(text, spec.command_spec())?;
+        let plain = plain_tree(text, spec)?;
         let (end, tape) = recorded(text, spec.command_spec())?;
         check_verdicts(&verdicts, &tape)?;
         let rows = match end {
@@ -86,6 +86,11 @@ impl Run {
         }
     }
 
+    /// The place of the first opening that makes 129 open nodes.
+    pub fn too_deep_place(&self) -> Option<usize> {
+        self.too_deep.map(|row| self.place_of(row))
+    }
+
     /// The place of a row by its number in the order of writing, or of the end.
     fn place_of(&self, row: usize) -> usize {
         self.writes
@@ -120,7 +125,7 @@ fn check_verdicts(verdicts: &Verdicts, tape: &Tape) -> Result<(), Fault> {
     Ok(())
 }
 
-fn check_builds(text: &str, plain: &plain::Tree, end: End, rows: &[Row]) -> Result<(), Fault> {
+fn check_builds(text: &str, plain: &Tree, end: End, rows: &[Row]) -> Result<(), Fault> {
     let same = match plain {
         Ok(plain) => {
             let told: Vec<PlainRow> = rows.iter().map(|row| with_text(text, row)).collect();

@@ -34,13 +34,22 @@ fn too_little_room_comes_before_5() {
 }
 
 #[test]
-fn six_comes_before_seven_before_eight() {
+fn seven_comes_before_eight() {
     let refused = |number, place| Answer::Refused { number, place };
-    let deep = "{".repeat(128);
-    let run = run(&deep, "").expect("an answer");
+    let run = run(&"{".repeat(128), "").expect("an answer");
     let rows = run.too_deep.expect("a 129th node");
+    assert_eq!(run.too_deep_place(), Some(127));
     assert_eq!(run.answer(rows), refused(7, 127));
     assert_eq!(run.answer(rows - 1), refused(8, 126));
+}
+
+#[test]
+fn six_comes_before_seven_and_eight() {
+    let run = run(&("{".repeat(126) + "&_\\l"), "l=left1").expect("an answer");
+    assert_eq!(run.deepest, 128, "the wrap would open a 129th node");
+    let refused = |number, place| Answer::Refused { number, place };
+    assert_eq!(run.answer(run.writes.len()), refused(6, 128));
+    assert_eq!(run.answer(run.writes.len() - 1), refused(8, 127));
 }
 
 #[test]

@@ -1,7 +1,7 @@
 //! A recorded case and its bytes.
 
 use answers::Run;
-use sheet::{Answer, Bytes, Dropped, Row, Tables, LEAF};
+use sheet::{Answer, Bytes, Dropped, Row, Tables, Unread, LEAF};
 
 /// Tables, a room, and the whole answer to expect.
 #[derive(Debug, Clone, PartialEq, Eq)]
@@ -65,89 +65,55 @@ pub fn write_list(cases: &[Case]) -> Vec<u8> {
 
 /// The cases of a list's bytes, which must be whole.
 pub fn read_list(bytes: &[u8]) -> Vec<Case> {
-    let mut list = Reader(bytes);
+    let mut list = Unread(bytes);
     let mut cases = Vec::new();
     while !list.0.is_empty() {
-        let mut case = Reader(list.section());
-        cases.push(case.case());
+        let mut case = Unread(list.section().expect("a whole list"));
+        cases.push(read_case(&mut case).expect("a whole case"));
         assert!(case.0.is_empty(), "a case ends where its length says");
     }
     cases
 }
 
-struct Reader<'a>(&'a [u8]);
+fn read_case(bytes: &mut Unread) -> Option<Case> {
+    Some(Case {
+        tables: Tables::of_sheet(bytes.section()?)?,
+        room: bytes.number(4)?,
+        answer: read_answer(bytes)?,
+    })
+}
 
-impl<'a> Reader<'a> {
-    fn take(&mut self, len: usize) -> &'a [u8] {
-        let (taken, left) = self.0.split_at(len);
-        self.0 = left;
-        taken
+fn read_answer(bytes: &mut Unread) -> Option<Answer> {
+    let number = bytes.number(4)?;
+    if number > 0 {
+        let place = bytes.number(4)?;
+        return Some(Answer::Refused { number, place });
     }
+    let (rows, dropped) = (bytes.number(4)?, bytes.number(4)?);
+    Some(Answer::Accepted {
+        rows: (0..rows).map(|_| read_row(bytes)).collect::<Option<_>>()?,
+        dropped: (0..dropped)
+            .map(|_| read_dropped(bytes))
+            .collect::<Option<_>>()?,
+    })
+}
 
-    /// A number of so many bytes, the first the highest.
-    fn number(&mut self, len: usize) -> u32 {
-        let bytes = self.take(len).iter();
-        bytes.fold(0, |number, &byte| number * 256 + u32::from(byte))
-    }
+fn read_row(bytes: &mut Unread) -> Option<Row> {
+    let first = bytes.number(1)?;
+    let (tag, kind) = (first / 64, first % 64);
+    let width = if tag == LEAF { 2 } else { 0 };
+    Some(Row {
+        tag,
+        kind,
+        start: bytes.number(width)?,
+        len: bytes.number(width)?,
+    })
+}
 
-    fn section(&mut self) -> &'a [u8] {
-        let len = self.number(4);
-        self.take(len as usize)
-    }
-
-    fn numbers(&mut self) -> Vec<u32> {
-        let numbers = self.section().chunks(4);
-        numbers.map(|bytes| Reader(bytes).number(4)).collect()
-    }
-
-    fn tables(&mut self) -> Tables {
-        assert_eq!(self.number(1), 1, "the version of a sheet");
-        Tables {
-            text: self.section().to_vec(),
-            tokens: self.numbers(),
-            shapes: self.numbers(),
-            states: self.numbers(),
-        }
-    }
-
-    fn case(&mut self) -> Case {
-        Case {
-            tables: Reader(self.section()).tables(),
-            room: self.number(4),
-            answer: self.answer(),
-        }
-    }
-
-    fn answer(&mut self) -> Answer {
-        let number = self.number(4);
-        if number > 0 {
-            let place = self.number(4);
-            return Answer::Refused { number, place };
-        }
-        let (rows, dropped) = (self.number(4), self.number(4));
-        Answer::Accepted {
-            rows: (0..rows).map(|_| self.row()).collect(),
-            dropped: (0..dropped).map(|_| self.dropped()).collect(),
-        }
-    }
-
-    fn row(&mut self) -> Row {
-        let first = self.number(1);
-        let (tag, kind) = (first / 64, first % 64);
-        let mut position = || if tag == LEAF { self.number(2) } else { 0 };
-        Row {
-            tag,
-            kind,
-            start: position(),
-            len: position(),
-        }
-    }
-
-    fn dropped(&mut self) -> Dropped {
-        Dropped {
-            token: self.number(2),
-            reason: self.number(1),
-            leaves: self.number(4),
-        }
-    }
+fn read_dropped(bytes: &mut Unread) -> Option<Dropped> {
+    Some(Dropped {
+        token: bytes.number(2)?,
+        reason: bytes.number(1)?,
+        leaves: bytes.number(4)?,
+    })
 }

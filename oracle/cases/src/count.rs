@@ -4,6 +4,7 @@ use std::collections::{BTreeMap, BTreeSet};
 use std::fmt;
 
 use answers::names;
+use model::Slip;
 use sheet::{Answer, Row, LEAF, START};
 
 use crate::Case;
@@ -19,6 +20,8 @@ pub struct Counts {
     pub scopes: Table,
     pub reasons: Table,
     pub answers: Table,
+    /// For each slip the number of cases whose answer it changes.
+    pub slips: Table,
 }
 
 impl Counts {
@@ -33,6 +36,8 @@ impl Counts {
         let kinds = case.tables.tokens().map(|token| token.kind);
         add_all(&mut self.token_kinds, kinds.map(token_name));
         add_all(&mut self.forms, forms(case));
+        let told = Slip::ALL.iter().filter(|&&slip| tells(case, slip));
+        add_all(&mut self.slips, told.map(|slip| format!("{slip:?}")));
         match &case.answer {
             Answer::Refused { number, .. } => {
                 add_all(&mut self.answers, [format!("refused {number}")]);
@@ -52,6 +57,10 @@ fn add_all(table: &mut Table, names: impl IntoIterator<Item = String>) {
     names
         .into_iter()
         .for_each(|name| *table.entry(name).or_default() += 1);
+}
+
+fn tells(case: &Case, slip: Slip) -> bool {
+    model::answer(&case.tables, case.room as usize, Some(slip)) != case.answer
 }
 
 fn token_name(kind: u32) -> String {
@@ -105,6 +114,7 @@ impl fmt::Display for Counts {
             ("form", &self.forms),
             ("dropped (accepted cases)", &self.reasons),
             ("token kind", &self.token_kinds),
+            ("slip that it tells", &self.slips),
         ];
         for (name, table) in tables {
             writeln!(f, "\nby {name}")?;

@@ -45,6 +45,12 @@ pub fn nestings() -> Vec<String> {
     formulas
 }
 
+/// All formulas of this file with their shapes.
+pub fn all() -> Vec<(String, Spec)> {
+    let nestings = nestings().into_iter().map(|text| (text, usual_shapes()));
+    nestings.chain(many_arguments()).collect()
+}
+
 /// Formulas with a command that takes about as many arguments as a shape may ask for.
 pub fn many_arguments() -> Vec<(String, Spec)> {
     let mut formulas = Vec::new();

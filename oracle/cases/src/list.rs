@@ -92,19 +92,30 @@ impl List {
 
     /// Short formulas at every room up to what they need: one row short at every row.
     fn add_rooms(&mut self, dice: &mut Dice) {
+        for formula in paper_formulas() {
+            let run = formula.run().expect("a named formula has an answer");
+            if run.writes.len() <= MOST_ROOMS {
+                self.add_every_room(&run, dice);
+            }
+        }
         let mut formulas = 0;
         while formulas < ROOM_FORMULAS {
             let (text, spec) = by_chance(dice, 8);
             let Some(run) = self.run(&text, &spec) else {
                 continue;
             };
-            if (8..=24).contains(&run.writes.len()) {
-                let odd = dice.below(4) as u32;
-                for rows in 0..=run.writes.len() as u32 {
-                    self.add_with_room(&run, 4 * rows + odd);
-                }
+            if (8..=MOST_ROOMS).contains(&run.writes.len()) {
+                self.add_every_room(&run, dice);
                 formulas += 1;
             }
+        }
+    }
+
+    /// Every room, with some numbers over that make no row.
+    fn add_every_room(&mut self, run: &Run, dice: &mut Dice) {
+        for rows in 0..=run.writes.len() as u32 {
+            let over = dice.below(4) as u32;
+            self.add_with_room(run, 4 * rows + over);
         }
     }
 
@@ -150,7 +161,9 @@ impl List {
     }
 }
 
+/// How many formulas by chance are recorded at every room, and of how many rows at most.
 const ROOM_FORMULAS: usize = 80;
+const MOST_ROOMS: usize = 24;
 
 /// How many formulas by chance, of how many parts at most.
 const BY_CHANCE: [(usize, usize); 4] = [(3_000, 8), (1_200, 30), (60, 200), (12, 1_200)];

@@ -82,6 +82,7 @@ fn by_reading() -> Vec<Formula> {
         formula("a_^\\l", "l=left1", "accepted, with the mark's row before the node's"),
         formula("\\begin{m} \\end{m}", "m=env-fixed1", "the `\\end` is the argument"),
         formula("{".repeat(126) + "a_", "", "refused 7 at 127, from the inner Arg"),
+        formula("{".repeat(126) + "&_\\l", "l=left1", "refused 6 at 128, where 7 would be next"),
         formula("a_\\e^c", "e=range0", "range 0 clears last, so the second Attach has no Arg"),
         formula("a_\\e^c", "e=fixed0", "fixed 0 is no shape"),
         formula("a_\\e^c", "e=none", "form 0 is no shape"),

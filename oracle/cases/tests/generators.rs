@@ -3,7 +3,7 @@
 
 use answers::{formula_questions, with_deep_stack, Fault, Run, Spec};
 use cases::dice::Dice;
-use cases::{all_sequences, by_chance, usual};
+use cases::{all_sequences, around_limits, by_chance, usual};
 
 fn runs(formulas: Vec<(String, Spec)>, check: impl Fn(&str, &Run) + Send + 'static) {
     with_deep_stack(move || {
@@ -38,6 +38,7 @@ fn agrees(text: &str, run: &Run) {
 fn the_model_agrees_at_every_room() {
     runs(short_sequences(), agrees);
     runs(formulas_by_chance(2_000, 12), agrees);
+    runs(around_limits(), agrees);
 }
 
 #[test]

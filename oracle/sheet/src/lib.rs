@@ -7,6 +7,6 @@ mod listing;
 mod tables;
 
 pub use answer::{Answer, Dropped, Row, FINISH, LEAF, START};
-pub use bytes::Bytes;
+pub use bytes::{Bytes, Unread};
 pub use listing::listing;
 pub use tables::{Shape, State, Tables, Token};

@@ -1,6 +1,9 @@
 //! The four tables that go into a run.
 
-use crate::Bytes;
+use crate::{Bytes, Unread};
+
+/// The version of a sheet.
+const VERSION: u32 = 1;
 
 #[derive(Debug, Clone, Copy, PartialEq, Eq)]
 pub struct Token {
@@ -88,10 +91,25 @@ impl Tables {
         [row[0], row[1], row[2]]
     }
 
+    /// The tables of a sheet, if it is whole and nothing follows it.
+    pub fn of_sheet(sheet: &[u8]) -> Option<Self> {
+        let mut unread = Unread(sheet);
+        if unread.number(1)? != VERSION {
+            return None;
+        }
+        let tables = Self {
+            text: unread.section()?.to_vec(),
+            tokens: unread.numbers()?,
+            shapes: unread.numbers()?,
+            states: unread.numbers()?,
+        };
+        unread.0.is_empty().then_some(tables)
+    }
+
     /// The sheet that `treelist` reads.
     pub fn sheet(&self) -> Vec<u8> {
         let mut sheet = Bytes::default();
-        sheet.u8(1);
+        sheet.u8(VERSION);
         sheet.section(&self.text);
         for numbers in [&self.tokens, &self.shapes, &self.states] {
             let mut section = Bytes::default();

@@ -2,19 +2,27 @@
 //!
 //! `show '\f xy' f=fixed2` prints the token, shape and state rows, the tree, the rows
 //! in the order of writing with their places, and what was dropped, or the refusal.
-//! `--room N` gives a tree buffer of N numbers, `--treelist` prints as `treelist` does.
+//! `--room N` gives a tree buffer of N numbers. `--treelist` prints the answer alone, as
+//! `treelist` does; `--sheet` writes the sheet that `treelist` reads.
 
+use std::io::{self, Write as _};
 use std::process::ExitCode;
 
 use answers::{names, with_deep_stack, Run, Spec};
 use sheet::{listing, Answer, LEAF, START};
 use tape::Write;
 
+enum Wanted {
+    Everything,
+    Listing,
+    Sheet,
+}
+
 struct Asked {
     formula: String,
     spec: Spec,
     room: usize,
-    treelist: bool,
+    wanted: Wanted,
 }
 
 fn asked() -> Result<Asked, String> {
@@ -22,13 +30,14 @@ fn asked() -> Result<Asked, String> {
         formula: String::new(),
         spec: Spec::default(),
         room: usize::MAX,
-        treelist: false,
+        wanted: Wanted::Everything,
     };
     let mut words = std::env::args().skip(1);
     asked.formula = words.next().ok_or("usage: show FORMULA [NAME=FORM]..")?;
     while let Some(word) = words.next() {
         match word.as_str() {
-            "--treelist" => asked.treelist = true,
+            "--treelist" => asked.wanted = Wanted::Listing,
+            "--sheet" => asked.wanted = Wanted::Sheet,
             "--room" => {
                 let numbers = words.next().and_then(|n| n.parse::<usize>().ok());
                 asked.room = numbers.ok_or("--room wants a count of numbers")? / 4;
@@ -52,18 +61,25 @@ fn main() -> ExitCode {
 fn show(asked: &Asked) -> Result<(), String> {
     let run = Run::of(&asked.formula, &asked.spec).map_err(|fault| fault.to_string())?;
     let answer = run.answer(asked.room);
-    if asked.treelist {
-        print!("{}", listing(&answer));
-        return Ok(());
-    }
-    tables(&asked.formula, &run, &asked.spec);
-    writes(&asked.formula, &run);
-    print!("\nanswer\n{}", listing(&answer));
-    if let Answer::Accepted { .. } = answer {
-        println!("\ntree");
-        tree(&asked.formula, &run);
+    match asked.wanted {
+        Wanted::Everything => everything(asked, &run, &answer),
+        Wanted::Listing => print!("{}", listing(&answer)),
+        Wanted::Sheet => {
+            let written = io::stdout().write_all(&run.tables.sheet());
+            written.map_err(|error| error.to_string())?;
+        }
     }
     Ok(())
+}
+
+fn everything(asked: &Asked, run: &Run, answer: &Answer) {
+    tables(&asked.formula, run, &asked.spec);
+    writes(&asked.formula, run);
+    print!("\nanswer\n{}", listing(answer));
+    if let Answer::Accepted { .. } = answer {
+        println!("\ntree");
+        tree(&asked.formula, run);
+    }
 }
 
 fn part(formula: &str, start: u32, len: u32) -> &str {
@@ -115,6 +131,9 @@ fn writes(formula: &str, run: &Run) {
         println!("{index:5}  {place:5}  {row}");
     }
     println!("\nmost nodes open: {}", run.deepest);
+    if let Some(place) = run.too_deep_place() {
+        println!("a 129th at place {place}");
+    }
 }
 
 fn tree(formula: &str, run: &Run) {

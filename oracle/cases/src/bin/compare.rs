@@ -1,15 +1,17 @@
 //! Holds the model of document 01 against the Rust.
 //!
 //! `compare sequences LENGTH` takes all sequences of parts of that length, `compare
-//! chance COUNT MOST [SEED]` formulas by chance of up to so many parts. Each formula is
-//! compared at full room and at one smaller room; short ones at every room. A
-//! difference is printed with the smallest input that still shows it.
+//! chance COUNT MOST [SEED]` formulas by chance of up to so many parts, `compare limits`
+//! formulas around 128 nodes and 255 arguments. Each formula is compared at full room
+//! and at one smaller room; short ones at every room. A difference is printed with the
+//! smallest input that still shows it.
 
+use std::fmt;
 use std::process::ExitCode;
 
 use answers::{with_deep_stack, Fault, Run, Spec};
 use cases::dice::Dice;
-use cases::{all_sequences, by_chance, usual};
+use cases::{all_sequences, around_limits, by_chance, usual};
 
 #[derive(Default)]
 struct Tally {
@@ -21,34 +23,57 @@ struct Tally {
     differences: usize,
 }
 
+impl fmt::Display for Tally {
+    fn fmt(&self, f: &mut fmt::Formatter<'_>) -> fmt::Result {
+        write!(f, "{} formulas, {} tokens, ", self.formulas, self.tokens)?;
+        write!(f, "at most {} in one, ", self.longest)?;
+        write!(
+            f,
+            "{} answers, {} differences",
+            self.answers, self.differences
+        )?;
+        write!(f, "; the lexer panicked on {} more", self.lexer_panics)
+    }
+}
+
 fn main() -> ExitCode {
     let words: Vec<String> = std::env::args().skip(1).collect();
-    let tally = with_deep_stack(move || compare(&words));
-    println!(
-        "{} formulas, {} tokens, at most {} in one, {} answers, {} differences; the lexer panicked on {} more",
-        tally.formulas, tally.tokens, tally.longest, tally.answers, tally.differences, tally.lexer_panics
-    );
+    let words: Vec<&str> = words.iter().map(String::as_str).collect();
+    let Some(formulas) = formulas(&words) else {
+        eprintln!("usage: compare sequences LENGTH | chance COUNT MOST [SEED] | limits");
+        return ExitCode::FAILURE;
+    };
+    let tally = with_deep_stack(|| compare(formulas));
+    println!("{tally}");
     ExitCode::from(u8::from(tally.differences > 0))
 }
 
-fn compare(words: &[String]) -> Tally {
-    let number = |index: usize| words.get(index).and_then(|word| word.parse().ok());
+type Formulas = Box<dyn Iterator<Item = (String, Spec)> + Send>;
+
+fn formulas(words: &[&str]) -> Option<Formulas> {
+    match words {
+        ["sequences", length] => {
+            let texts = all_sequences(length.parse().ok()?);
+            Some(Box::new(texts.map(|text| (text, usual()))))
+        }
+        ["chance", count, most, seed @ ..] => {
+            let count: usize = count.parse().ok()?;
+            let most = most.parse().ok()?;
+            let mut dice = Dice::new(seed.first().unwrap_or(&"1").parse().ok()?);
+            Some(Box::new(
+                (0..count).map(move |_| by_chance(&mut dice, most)),
+            ))
+        }
+        ["limits"] => Some(Box::new(around_limits().into_iter())),
+        _ => None,
+    }
+}
+
+fn compare(formulas: Formulas) -> Tally {
     let mut tally = Tally::default();
-    match (words.first().map(String::as_str), number(1), number(2)) {
-        (Some("sequences"), Some(length), _) => {
-            let mut dice = Dice::new(length);
-            for text in all_sequences(length as u32) {
-                tally.formula(&text, &usual(), &mut dice);
-            }
-        }
-        (Some("chance"), Some(count), Some(most)) => {
-            let mut dice = Dice::new(number(3).unwrap_or(1));
-            for _ in 0..count {
-                let (text, spec) = by_chance(&mut dice, most as usize);
-                tally.formula(&text, &spec, &mut dice);
-            }
-        }
-        _ => panic!("usage: compare sequences LENGTH | compare chance COUNT MOST [SEED]"),
+    let mut dice = Dice::new(0);
+    for (text, spec) in formulas {
+        tally.formula(&text, &spec, &mut dice);
     }
     tally
 }
