@@ -11,3 +11,9 @@ pub mod Matcher
 pub mod Outcome
 pub mod Builder
 pub mod Flat
+pub mod Position
+pub mod Items
+pub mod Routines
+pub mod Reading
+pub mod Checks
+pub mod Run

@@ -1,0 +1,264 @@
+-- The routines of parser.rs that read items inside items: over any builder, for what is read. Each takes `inner`, which reads an item inside a node;
+-- `contentAt` ties the knot over the nodes that may yet be opened.
+use Prim.Native.Nat.{ℕ, zero, suc}
+use mathlib.Core.Bool.{Bool, true, false, cond}
+use mathlib.Core.List.{List, [], _∷_}
+use mathlib.Core.Option.{Option, none, some}
+use lib.Dec.{eqb}
+use Rattle.rules.specs.Builder.{Builder}
+use Rattle.rules.specs.Cursor.{peek, atStart}
+use Rattle.rules.specs.Items.{Item, plain, error, word, comma, group, attachment, command, environment, leftRight, skipped, itemOf, groupKind, closer, classCommand, classEnvironment, ofClass, nameOnly, attachable, greedyStops, Piece, character, within, brace, item, Choice, ends, holds, takes, choose}
+use Rattle.rules.specs.Limits
+use Rattle.rules.specs.Matcher.{Matcher, startMatch, isGreedy, formLeft1, formInfixGreedy}
+use Rattle.rules.specs.Outcome.{Out, went, refused, bind, greedyEnvironment, tooManyOpen}
+use Rattle.rules.specs.Position.{Shape, Source, ListState, At, Rule, steps, place, withLexer, withList, withMarks, holdingNone, start, finish, wrap}
+use Rattle.rules.specs.Routines.{next, turns, eat, eatIf, trivia, singleChar, oneIn, holdTrivia, ignoreHoldingTrivia, extractHoldingTrivia, text, clauseLr, skippedBody, startCommandAt}
+use Rattle.rules.specs.Scope
+use Rattle.rules.specs.Scope.{Scope, stops}
+use Rattle.rules.specs.SyntaxKind
+use Rattle.rules.specs.Tables.{kindAt}
+use Rattle.rules.specs.Token
+
+module _ (B : Builder) (source : Source) where
+  -- the shape of the next token, where one of this class is asked for
+  abbrev pub shapeHere : ℕ → At B → Shape
+  shapeHere class p = ofClass class (source .shape (place B p))
+
+  -- "Last becomes the mark before an item whose reading says attachable": what last is behind the item that begins at p and ends at q
+  abbrev pub lastAfter : At B → At B → At B
+  lastAfter p q = withMarks B (q .list .start) (cond (attachable (kindAt (source .tokens) (place B p)) (source .shape (place B p))) (some (B .mark (p .built))) (q .list .last)) q
+
+  -- a mark where one is, else another
+  abbrev pub orElse : Option (B .Mark) → Option (B .Mark) → Option (B .Mark)
+  orElse none other = other
+  orElse (some m) other = some m
+
+  -- reads an item inside a node; the Bool says whether one character of a Word is enough
+  module _ (inner : Bool → Rule B) where
+    -- ---- lists and groups
+
+    -- items up to the end, or a token whose kind stops them
+    unfoldable pub items : (ℕ → Bool) → ℕ → Rule B
+    items stop zero p = went p
+    items stop (suc n) p = cond (next B source (λ kind. cond (stop kind) false true) p) (bind (inner false p) (λ q. items stop n (lastAfter p q))) (went p)
+
+    -- `item_list`: "Groups, environments and left-right bodies read a new list and then give back the parent's marks."
+    unfoldable pub itemList : Scope → Rule B
+    itemList scope p =
+        steps
+        ((λ q. went (withList B (record { scope = scope; start = some (B .mark (q .built)); last = none }) q))
+        ∷ (λ q. items (stops scope) (turns B source q) q)
+        ∷ (λ q. went (withList B (p .list) q))
+        ∷ [])
+        p
+
+    -- `item_group`:  {a}   Curly[{ Text[a] }]
+    unfoldable pub itemGroup : Scope → Rule B
+    itemGroup scope p =
+        steps
+        (start B (groupKind scope)
+        ∷ eat B source
+        ∷ itemList scope
+        ∷ eatIf B source (closer scope)
+        ∷ finish B (groupKind scope) (B .frame (p .built))
+        ∷ [])
+        p
+
+    -- ---- arguments
+
+    -- how an argument is read, inside its node
+    unfoldable pub piece : Piece → Rule B
+    piece character p = singleChar B source p
+    piece (within scope) p = itemGroup scope p
+    piece brace p = eat B source p
+    piece item p = inner false p
+
+    -- an accepted argument: what is held is dropped, and the argument has a node of its own
+    unfoldable pub argument : Piece → Rule B
+    argument what p =
+        steps
+        (ignoreHoldingTrivia B source
+        ∷ start B SyntaxKind.ClauseArgument
+        ∷ piece what
+        ∷ finish B SyntaxKind.ClauseArgument (B .frame (p .built))
+        ∷ (λ q. went (holdingNone B q))
+        ∷ [])
+        p
+
+    -- arguments, until the matcher or the kind of token ends them
+    abbrev pub chosen : (Matcher → Rule B) → Choice → Matcher → Rule B
+    chosen more ends m p = went p
+    chosen more holds m p = more m (holdTrivia B source p)
+    chosen more (takes what next) m p = bind (argument what p) (λ q. more next q)
+
+    -- at the end there is no argument
+    abbrev pub choiceFor : Option ℕ → Matcher → At B → Choice
+    choiceFor none m p = ends
+    choiceFor (some kind) m p = choose (source .states) (p .list .scope) m kind
+
+    abbrev pub choiceAt : Matcher → At B → Choice
+    choiceAt m p = choiceFor (peek (source .tokens) (p .lexer)) m p
+
+    unfoldable pub arguments : ℕ → Matcher → Rule B
+    arguments zero m p = went p
+    arguments (suc n) m p = chosen (arguments n) (choiceAt m p) m p
+
+    -- `match_arguments` of a matcher that isn't greedy. "Around arguments last is cleared first and saved second, so it is empty afterwards.
+    -- Start is empty inside non-greedy arguments"
+    unfoldable pub matchArguments : Matcher → Rule B
+    matchArguments m p =
+        steps
+        ((λ q. went (holdingNone B (withMarks B none none q)))
+        ∷ (λ q. arguments (turns B source q) m q)
+        ∷ (λ q. went (withMarks B (p .list .start) none q))
+        ∷ [])
+        p
+
+    -- the argument of a greedy command, all of it in one node. "Start is .. a new mark inside greedy ones." "`[` and `(` are eaten plain. Last becomes
+    -- the mark before each opening brace's item, plain ones too, and each attachable item": that is what reading these as items does
+    unfoldable pub greedyArgument : Rule B
+    greedyArgument p =
+        steps
+        (start B SyntaxKind.ClauseArgument
+        ∷ (λ q. went (withMarks B (some (B .mark (q .built))) none q))
+        ∷ (λ q. items (greedyStops (q .list .scope)) (turns B source q) q)
+        ∷ (λ q. went (withMarks B (p .list .start) none q))
+        ∷ finish B SyntaxKind.ClauseArgument (B .frame (p .built))
+        ∷ [])
+        p
+
+    -- ---- commands
+
+    -- a command's node is open: its name, its arguments, its end
+    unfoldable pub commandNode : Rule B → B .Frame → Rule B
+    commandNode rest parent p = steps (eat B source ∷ rest ∷ finish B SyntaxKind.ItemCmd parent ∷ []) p
+
+    unfoldable pub commandOf : Shape → Rule B
+    commandOf s p =
+        -- "name only, attachable":  \z   Cmd[\z]
+        cond (nameOnly s) (oneIn B source SyntaxKind.ItemCmd p)
+        -- "Left1: wraps from last, else start, else nothing; not attachable":  a\l   Cmd[Arg[Text a] \l]
+        (cond (eqb (s .form) formLeft1)
+        (steps (startCommandAt B source (orElse (p .list .last) (p .list .start)) ∷ commandNode went (B .frame (p .built)) ∷ []) p)
+        -- "Infix-greedy: takes start away and wraps from it if there was one":  a\o b   Cmd[Arg[Text a] \o Arg[..]]
+        (cond (eqb (s .form) formInfixGreedy)
+        (steps
+        ((λ q. went (withMarks B none (q .list .last) q))
+        ∷ startCommandAt B source (p .list .start)
+        ∷ commandNode greedyArgument (B .frame (p .built))
+        ∷ [])
+        p)
+        (cond (isGreedy (startMatch (s .form) (s .value)))
+        (steps (start B SyntaxKind.ItemCmd ∷ commandNode greedyArgument (B .frame (p .built)) ∷ []) p)
+        -- any other:  \f12   Cmd[\f Arg[1] Arg[2]]
+        (steps
+        (start B SyntaxKind.ItemCmd
+        ∷ commandNode (matchArguments (startMatch (s .form) (s .value))) (B .frame (p .built))
+        ∷ extractHoldingTrivia B source
+        ∷ [])
+        p))))
+
+    -- ---- environments, left-right bodies, attachments
+
+    -- the arguments of a \begin: "environment whose class 2 shape is greedy, when its arguments are to be read" is refused 5
+    unfoldable pub environmentArguments : Shape → Rule B
+    environmentArguments s p =
+        cond (nameOnly s) (went (holdingNone B p))
+        (cond (isGreedy (startMatch (s .form) (s .value))) (refused greedyEnvironment (place B p))
+        (matchArguments (startMatch (s .form) (s .value)) p))
+
+    unfoldable pub beginClause : Rule B
+    beginClause p =
+        steps
+        (start B SyntaxKind.ItemBegin
+        ∷ eat B source
+        ∷ environmentArguments (shapeHere classEnvironment p)
+        ∷ finish B SyntaxKind.ItemBegin (B .frame (p .built))
+        ∷ extractHoldingTrivia B source
+        ∷ [])
+        p
+
+    unfoldable pub endClause : Rule B
+    endClause p = cond (next B source (eqb Token.EndEnvironment) p) (oneIn B source SyntaxKind.ItemEnd p) (went p)
+
+    -- `environment`:  \begin{m}a\end{m}   Env[Begin[m] Text[a] End[m]]
+    unfoldable pub environmentItem : Rule B
+    environmentItem p =
+        steps
+        (start B SyntaxKind.ItemEnv
+        ∷ beginClause
+        ∷ itemList Scope.Environment
+        ∷ endClause
+        ∷ finish B SyntaxKind.ItemEnv (B .frame (p .built))
+        ∷ [])
+        p
+
+    unfoldable pub rightClause : Rule B
+    rightClause p = cond (next B source (eqb Token.Right) p) (clauseLr B source p) (went p)
+
+    -- `item_lr`:  \left(a\right)   LR[ClauseLR[\left (] Text[a] ClauseLR[\right )]]
+    unfoldable pub itemLr : Rule B
+    itemLr p =
+        steps
+        (start B SyntaxKind.ItemLR
+        ∷ clauseLr B source
+        ∷ itemList Scope.LR
+        ∷ rightClause
+        ∷ finish B SyntaxKind.ItemLR (B .frame (p .built))
+        ∷ [])
+        p
+
+    -- what follows `_` or `^`: "`content` itself doesn't ask the scope", so a `}` is a script too
+    unfoldable pub script : Bool → Rule B
+    script true p = steps (trivia B source ∷ inner true ∷ []) p
+    script false p = went p
+
+    -- an attachment's node is open: its token, its script, its end
+    unfoldable pub attachmentNode : Bool → B .Frame → Rule B
+    attachmentNode hasScript parent p = steps (eat B source ∷ script hasScript ∷ finish B SyntaxKind.ItemAttachComponent parent ∷ []) p
+
+    -- `attach_component`:  a_b   Attach[Arg[Text a] _ b];  without a last mark `'` is a plain leaf, and `_b` is Attach[_ b]
+    unfoldable pub attachTo : Bool → Option (B .Mark) → Rule B
+    attachTo hasScript (some m) p = steps (wrap B SyntaxKind.ItemAttachComponent m ∷ attachmentNode hasScript (B .frame (p .built)) ∷ []) p
+    attachTo true none p = steps (start B SyntaxKind.ItemAttachComponent ∷ attachmentNode true (B .frame (p .built)) ∷ []) p
+    attachTo false none p = eat B source p
+
+    unfoldable pub attachComponent : Bool → Rule B
+    attachComponent hasScript p = attachTo hasScript (p .list .last) p
+
+    -- ---- `content`: any item
+
+    unfoldable pub readItem : Bool → Item → Rule B
+    readItem single plain p = eat B source p
+    readItem single error p = oneIn B source SyntaxKind.TokenError p
+    readItem single word p = cond single (singleChar B source p) (text B source p)
+    readItem single comma p = text B source p
+    readItem single (group scope) p = itemGroup scope p
+    readItem single (attachment hasScript) p = attachComponent hasScript p
+    readItem single command p = commandOf (shapeHere classCommand p) p
+    readItem single environment p = environmentItem p
+    readItem single leftRight p = itemLr p
+    readItem single (skipped node) p = skippedBody B source node p
+
+    -- at the end there is nothing to read
+    abbrev pub contentFor : Option ℕ → Bool → Rule B
+    contentFor none single p = went p
+    contentFor (some kind) single p = readItem single (itemOf kind) p
+
+    unfoldable pub content : Bool → Rule B
+    content single p = contentFor (peek (source .tokens) (p .lexer)) single p
+
+  -- `content` inside a node below which d more may be opened: where none may, nothing is read
+  unfoldable pub contentAt : ℕ → Bool → Rule B
+  contentAt zero = λ single p. refused tooManyOpen (place B p)
+  contentAt (suc d) = content (contentAt d)
+
+  -- `parse`: the root, a list in it, its end
+  unfoldable pub parse : B .State → Out (At B)
+  parse b =
+      steps
+      (start B SyntaxKind.ScopeRoot
+      ∷ itemList (contentAt (Limits.nodes)) Scope.Root
+      ∷ finish B SyntaxKind.ScopeRoot (B .frame b)
+      ∷ [])
+      (record { lexer = atStart; held = 0; list = record { scope = Scope.Root; start = none; last = none }; built = b })
