@@ -3,7 +3,7 @@
 -- Assumes nothing.
 use Prim.Native.Nat.{ℕ, zero, suc, _≤_, _<_}
 use mathlib.Core.Path.{_≡_, refl, sym, ap, subst, _∙_}
-use mathlib.Core.Bool.{Bool, true, false, not, _&&_, _||_, and-eq-true-iff, false≢true}
+use mathlib.Core.Bool.{Bool, true, false, not, _&&_, _||_, and-assoc, and-eq-true-iff, false≢true}
 use mathlib.Core.List.{List, [], _∷_, _++_, List·Memᴰ, List·Memᴰ·head, List·Memᴰ·tail, List·Memᴰ·not-nil, List·Memᴰ·cases-cons}
 use mathlib.Core.Logic.{_⊎_, inl, inr, ⊎-elim}
 use native.Mathlib.Omega.{arith}
@@ -119,6 +119,13 @@ of-begins rest (byte {r} {rs} {b} low up o) = rw (le-leb (r .0) b low, le-leb b 
 of-length : {a : List Range} {bytes : List ℕ} → Of a bytes → length bytes ≡ length a
 of-length none = refl
 of-length (byte low up o) = ap suc (of-length o)
+
+-- an alternative in two parts begins the bytes where the first part does, and the second what follows it
+pub begins-then : (a b : List Range) (bytes : List ℕ) → begins (a ++ b) bytes ≡ (begins a bytes && begins b (drop (length a) bytes))
+begins-then [] b bytes = refl
+begins-then (r ∷ rs) [] [] = refl
+begins-then (r ∷ rs) (q ∷ qs) [] = refl
+begins-then (r ∷ rs) b (x ∷ bytes) = rw (begins-then rs b bytes) (sym (and-assoc (within r x) (begins rs bytes) (begins b (drop (length rs) bytes))))
 
 -- ---- the length of the first character
 pub char-four : (bytes : List ℕ) → charLength bytes ≤ 4
