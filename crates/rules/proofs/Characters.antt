@@ -14,7 +14,7 @@ use borrow.Author.Tests.{leb-true, lt-leb, le-leb, eqb-true, eqb-false, ne-eqb}
 use Rattle.rules.specs.Characters.{Range, within, alternatives, begins, firstOf, charLength, characters, isUtf8, Of, none, byte, WellFormed, nothing, character}
 
 -- what follows from either value of a test follows
-either : {P : Type 0} (t : Bool) → (t ≡ true → P) → (t ≡ false → P) → P
+pub either : {P : Type 0} (t : Bool) → (t ≡ true → P) → (t ≡ false → P) → P
 either true met missed = met refl
 either false met missed = missed refl
 
