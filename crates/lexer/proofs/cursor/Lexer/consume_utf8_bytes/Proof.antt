@@ -1,6 +1,6 @@
 -- `consume_utf8_bytes` meets its contract: its test is the rule's. Assumes nothing.
-use mathlib.Core.Path.{_≡_, _∙_, sym}
 use borrow.Author.Needs.{needs}
+use native.Mathlib.Omega.{arith}
 use borrow.Author.Tests.{le-leb, lt-leb}
 use Rattle.rules.specs.Cursor.{consumed}
 use Rattle.lexer.proofs.cursor.Lexer.consume_utf8_bytes.Statement.{statement}
@@ -8,11 +8,11 @@ use Rattle.lexer.proofs.cursor.Lexer.consume_utf8_bytes.Tie as tie
 
 returns : tie.Need-returns
 unfolding consumed
-returns c = rw (← (c .before .before .rest-length .ensures), le-leb _ _ (c .before .if1 .taken)) (c .eat .ensures)
+returns c = rw (← (c .before .before .rest-length .ensures), le-leb (c .before .before .rest-length .result) (c .before .before .before .before .args .count) (omega arith)) (c .eat .ensures)
 
 returns-2 : tie.Need-returns-2
 unfolding consumed
-returns-2 c = rw (← (c .before .before .rest-length .ensures), lt-leb _ _ (c .before .if1 .left))
+returns-2 c = rw (← (c .before .before .rest-length .ensures), lt-leb (c .before .before .rest-length .result) (c .before .before .before .before .args .count) (omega arith))
 
 pub consume-utf8-bytes-spec : {M : Type 1} → statement M
 consume-utf8-bytes-spec =
