@@ -2,41 +2,65 @@
 -- since what is left of well-formed bytes after their first character is well-formed; and each step leaves less to read.
 -- Assumes nothing.
 use Prim.Native.Nat.{ℕ, zero, suc, _+_, _-_, _≤_, _<_}
-use mathlib.Core.Path.{_≡_, refl, sym, ap, ap₂, _∙_}
-use mathlib.Core.Bool.{Bool, true, false}
+use mathlib.Core.Path.{_≡_, sym, ap, _∙_}
 use mathlib.Core.List.{List, [], _∷_}
+use mathlib.Core.Logic.{_⊎_, inl, inr, ⊎-elim}
 use mathlib.Core.Option.{none, some}
 use native.Mathlib.Nat.{add-zero, sub-zero}
 use native.Mathlib.Omega.{arith}
-use lib.Dec.{ltb, leb}
-use lib.ListN.{length, take, drop, length-take, length-drop}
-use lib.Seq.{length-take-le, take-nil, drop-nil, drop-drop}
-use borrow.Author.Tests.{ltb-true, ltb-false, leb-true, leb-false, le-leb, lt-leb}
+use lib.Dec.{leb}
+use lib.ListN.{length, take, drop, length-drop}
+use lib.Seq.{length-take-le, take-nil, drop-drop}
+use borrow.Author.Tests.{lt-ltb, le-ltb, leb-true, leb-false, le-leb, lt-leb}
+use Rattle.rules.specs.Limits
 use Rattle.rules.specs.Token
-use Rattle.rules.specs.Characters.{charLength, isUtf8}
-use Rattle.rules.specs.Tables.{tokenCount, kindAt, startAt, lengthAt, part}
+use Rattle.rules.specs.Characters.{charLength}
+use Rattle.rules.specs.Tables.{tokenCount, kindAt, startAt, lengthAt}
 use Rattle.rules.specs.Cursor.{Cursor, atStart, peek, restStart, restLength, peekText, eaten, consumed, left}
 use Rattle.rules.proofs.Characters.{either, char-fits, utf8-some, utf8-again}
 use Rattle.lexer.specs.Fine.{IsWord, Sound, Fine, Here}
+use Rattle.lexer.specs.Reading.{peekedOf}
+use Rattle.lexer.specs.declared.cursor.Peeked.{Peeked}
+use Rattle.lexer.specs.declared.cursor.Peeked.the-variants.{Kind, End}
+
+le-or-lt : (a b : ℕ) → (a ≤ b) ⊎ (b < a)
+le-or-lt a b = either (leb a b) (λ t. inl (leb-true a b t)) (λ f. inr (leb-false a b f))
 
 -- ---- what `peek` tells
+pub record Next (tokens : List ℕ) (c : Cursor) (kind : ℕ) : Type 0 where
+  pub there : c .token < tokenCount tokens
+  pub is : kindAt tokens (c .token) ≡ kind
+
 module _ (tokens : List ℕ) (c : Cursor) where
-  pub peeked-there : {kind : ℕ} → peek tokens c ≡ some kind → c .token < tokenCount tokens
+  pub peek-some : c .token < tokenCount tokens → peek tokens c ≡ some (kindAt tokens (c .token))
   unfolding peek
-  peeked-there e =
-      either (ltb (c .token) (tokenCount tokens)) (λ t. ltb-true (c .token) (tokenCount tokens) t)
-      (λ f. let no = rw f at e in let z : _≡_ {A = ℕ} 0 1 = cc in absurd (omega arith))
+  peek-some there = rw (lt-ltb (c .token) (tokenCount tokens) there)
 
-  pub peeked-kind : {kind : ℕ} → peek tokens c ≡ some kind → kindAt tokens (c .token) ≡ kind
+  pub peek-none : tokenCount tokens ≤ c .token → peek tokens c ≡ none
   unfolding peek
-  peeked-kind e =
-      either (ltb (c .token) (tokenCount tokens)) (λ t. let found = rw t at e in cc) (λ f. let found = rw f at e in cc)
+  peek-none end = rw (le-ltb (c .token) (tokenCount tokens) end)
 
-  pub peeked-end : peek tokens c ≡ none → tokenCount tokens ≤ c .token
-  unfolding peek
-  peeked-end e =
-      either (ltb (c .token) (tokenCount tokens)) (λ t. let found = rw t at e in let z : _≡_ {A = ℕ} 0 1 = cc in absurd (omega arith))
-      (λ f. ltb-false (c .token) (tokenCount tokens) f)
+  module _ {p : Peeked} (told : peek tokens c ≡ peekedOf p) where
+    pub peeked : {kind : ℕ} → p ≡ Kind kind → Next tokens c kind
+    peeked {kind} e =
+        ⊎-elim (λ end. let z : _≡_ {A = ℕ} 0 1 = cc (peek-none end, ap peekedOf e) in absurd (omega arith))
+        (λ there. record { there = there; is = cc (peek-some there, ap peekedOf e) })
+        (le-or-lt (tokenCount tokens) (c .token))
+
+    pub ended : p ≡ End → tokenCount tokens ≤ c .token
+    ended e =
+        ⊎-elim (λ end. end) (λ there. let z : _≡_ {A = ℕ} 0 1 = cc (peek-some there, ap peekedOf e) in absurd (omega arith))
+        (le-or-lt (tokenCount tokens) (c .token))
+
+-- ---- what `consumed` comes to
+module _ (tokens : List ℕ) (count : ℕ) (c : Cursor) where
+  pub consumed-all : restLength tokens c ≤ count → consumed tokens count c ≡ eaten c
+  unfolding consumed
+  consumed-all all = rw (le-leb (restLength tokens c) count all)
+
+  pub consumed-part : count < restLength tokens c → consumed tokens count c ≡ record { token = c .token; taken = c .taken + count }
+  unfolding consumed
+  consumed-part more = rw (lt-leb (restLength tokens c) count more)
 
 -- ---- a cursor of whose token nothing is taken
 pub fresh : {text tokens : List ℕ} → Sound text tokens → (token : ℕ) → Fine text tokens (record { token = token; taken = 0 })
@@ -76,7 +100,7 @@ module _ {text tokens : List ℕ} {c : Cursor} (fine : Fine text tokens c) where
         let inside = fine .sound .inside (c .token) there in
         let short = fine .sound .short in
         let fewer = fine .fewer in
-        record { there = there; fewer = omega arith; small = omega arith }
+        record { there = there; taken = omega arith; small = omega arith }
 
     pub rest-inside : restStart tokens c + restLength tokens c ≤ length text
     unfolding restStart restLength
@@ -92,7 +116,7 @@ module _ {text tokens : List ℕ} {c : Cursor} (fine : Fine text tokens c) where
         length-take-le (restLength tokens c) (drop (restStart tokens c) text) (omega (arith, length-drop (restStart tokens c) text))
 
     -- what is left to read
-    taken-short : c .taken ≤ 65535
+    taken-short : c .taken ≤ Limits.text
     taken-short =
         let inside = fine .sound .inside (c .token) there in
         let short = fine .sound .short in
@@ -108,10 +132,11 @@ module _ {text tokens : List ℕ} {c : Cursor} (fine : Fine text tokens c) where
     left-eaten = let short = taken-short in omega arith
 
     pub left-consumed : (count : ℕ) → 1 ≤ count → left tokens (consumed tokens count c) < left tokens c
-    unfolding left consumed
+    unfolding left
     left-consumed count least =
         let short = taken-short in
-        either (leb (restLength tokens c) count) (λ t. rw t (omega arith)) (λ f. rw f (omega arith))
+        ⊎-elim (λ all. rw (consumed-all tokens count c all) (omega arith)) (λ more. rw (consumed-part tokens count c more) (omega arith))
+        (le-or-lt (restLength tokens c) count)
 
     -- where it is a Word
     module _ (word : kindAt tokens (c .token) ≡ Token.Word) where
@@ -131,10 +156,10 @@ module _ {text tokens : List ℕ} {c : Cursor} (fine : Fine text tokens c) where
           record { sound = fine .sound; fewer = omega arith; word = λ there' word'. rw (further text tokens c (charLength now)) rest }
 
       pub char-fine : Fine text tokens (consumed tokens (charLength (peekText text tokens c)) c)
-      unfolding consumed
       char-fine =
           let count = charLength (peekText text tokens c) in
-          either (leb (restLength tokens c) count) (λ t. rw t eaten-fine) (λ f. rw f (part-left (leb-false (restLength tokens c) count f)))
+          ⊎-elim (λ all. rw (consumed-all tokens count c all) eaten-fine) (λ more. rw (consumed-part tokens count c more) (part-left more))
+          (le-or-lt (restLength tokens c) count)
 
       pub char-left : left tokens (consumed tokens (charLength (peekText text tokens c)) c) < left tokens c
       char-left = left-consumed (charLength (peekText text tokens c)) char-some

@@ -11,7 +11,7 @@ use lib.Dec.{leb, eqb, eqb·suc-zero}
 use lib.ListN.{length, take, drop, length-drop, take-append-drop}
 use lib.Seq.{drop-at, drop-nil}
 use borrow.Author.Tests.{leb-true, lt-leb, le-leb, eqb-true, eqb-false, ne-eqb}
-use Rattle.rules.specs.Characters.{Range, within, alternatives, begins, firstOf, charLength, characters, isUtf8, Of, none, byte, WellFormed, nothing, character}
+use Rattle.rules.specs.Characters.{Range, within, alternatives, begins, firstOf, charLength, characters, isUtf8, Of, whole, byte, WellFormed, nothing, character}
 
 -- what follows from either value of a test follows
 pub either : {P : Type 0} (t : Bool) → (t ≡ true → P) → (t ≡ false → P) → P
@@ -105,7 +105,7 @@ fits (r ∷ rs) [] e = absurd (false≢true e)
 fits (r ∷ rs) (b ∷ bytes) e = let k = fits rs bytes (both (within r b) (begins rs bytes) e .1) in omega arith
 
 taken : (a : List Range) (bytes : List ℕ) → begins a bytes ≡ true → Of a (take (length a) bytes)
-taken [] bytes e = none
+taken [] bytes e = whole
 taken (r ∷ rs) [] e = absurd (false≢true e)
 taken (r ∷ rs) (b ∷ bytes) e =
     let k = both (within r b) (begins rs bytes) e in
@@ -113,11 +113,11 @@ taken (r ∷ rs) (b ∷ bytes) e =
     byte (leb-true (r .0) b (w .0)) (leb-true b (r .1) (w .1)) (taken rs bytes (k .1))
 
 of-begins : {a : List Range} {bytes : List ℕ} (rest : List ℕ) → Of a bytes → begins a (bytes ++ rest) ≡ true
-of-begins rest none = refl
+of-begins rest whole = refl
 of-begins rest (byte {r} {rs} {b} low up o) = rw (le-leb (r .0) b low, le-leb b (r .1) up) (of-begins rest o)
 
 of-length : {a : List Range} {bytes : List ℕ} → Of a bytes → length bytes ≡ length a
-of-length none = refl
+of-length whole = refl
 of-length (byte low up o) = ap suc (of-length o)
 
 -- an alternative in two parts begins the bytes where the first part does, and the second what follows it

@@ -60,7 +60,7 @@ isUtf8 bytes = characters (length bytes) bytes
 
 -- bytes of one alternative: one in each of its ranges
 pub data Of : List Range → List ℕ → Type 0 where
-  none : Of [] []
+  whole : Of [] []
   byte : {r : Range} {rs : List Range} {b : ℕ} {bytes : List ℕ} → r .0 ≤ b → b ≤ r .1 → Of rs bytes → Of (r ∷ rs) (b ∷ bytes)
 
 -- "UTF8-octets = *( UTF8-char )" as the grammar has it, with no word on how to decide it: `isUtf8` is true of these bytes and of no others
