@@ -1,2 +1,3 @@
 -- Theorems about the rules alone, and the laws by which other crates use their definitions.
+pub mod Characters
 pub mod Flat

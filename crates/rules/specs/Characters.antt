@@ -1,7 +1,7 @@
 -- The characters of a text: UTF-8 by the grammar of RFC 3629, section 4.
-use Prim.Native.Nat.{ℕ, zero, suc}
+use Prim.Native.Nat.{ℕ, zero, suc, _≤_}
 use mathlib.Core.Bool.{Bool, true, false, not, cond, _&&_, _||_}
-use mathlib.Core.List.{List, [], _∷_}
+use mathlib.Core.List.{List, [], _∷_, _++_, List·Memᴰ}
 use lib.Dec.{leb, eqb}
 use lib.ListN.{length, drop}
 
@@ -57,3 +57,13 @@ characters (suc n) bytes = eqb (length bytes) 0 || (not (eqb (charLength bytes) 
 -- whether the bytes are UTF-8: there are no more characters than bytes
 unfoldable pub isUtf8 : List ℕ → Bool
 isUtf8 bytes = characters (length bytes) bytes
+
+-- bytes of one alternative: one in each of its ranges
+pub data Of : List Range → List ℕ → Type 0 where
+  whole : Of [] []
+  byte : {r : Range} {rs : List Range} {b : ℕ} {bytes : List ℕ} → r .0 ≤ b → b ≤ r .1 → Of rs bytes → Of (r ∷ rs) (b ∷ bytes)
+
+-- "UTF8-octets = *( UTF8-char )" as the grammar has it, with no word on how to decide it: `isUtf8` is true of these bytes and of no others
+pub data WellFormed : List ℕ → Type 0 where
+  nothing : WellFormed []
+  character : {a : List Range} {bytes rest : List ℕ} → List·Memᴰ a alternatives → Of a bytes → WellFormed rest → WellFormed (bytes ++ rest)

@@ -1,0 +1,3 @@
+-- What the proofs of several functions use, and what callers need.
+pub mod Utf8
+pub mod Laws
