@@ -17,3 +17,6 @@ pub mod Routines
 pub mod Reading
 pub mod Checks
 pub mod Run
+pub mod Tree
+pub mod Rowan
+pub mod Cases

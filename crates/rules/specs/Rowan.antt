@@ -1,0 +1,94 @@
+-- The builder in the manner of rowan's GreenNodeBuilder: a stack of finished children and one of open parents; rows are laid out only at the end.
+-- Of what 01 adds it has the limits: how many rows were asked for, how many nodes are open.
+use Prim.Native.Nat.{ℕ, _+_, _/_}
+use mathlib.Core.Bool.{cond}
+use mathlib.Core.List.{List, [], _∷_, _++_}
+use lib.Dec.{ltb, leb}
+use lib.ListN.{length, take, drop}
+use Rattle.rules.specs.Builder.{Builder, Leaf}
+use Rattle.rules.specs.Flat.{droppedRow}
+use Rattle.rules.specs.Limits
+use Rattle.rules.specs.Outcome.{Out, went, refused, markBeforeNode, tooManyOpen, noRoom}
+use Rattle.rules.specs.Tree.{Tree, leaf, nodeOf}
+
+-- an open parent: its kind, and how many finished children stood before its first
+pub record Parent : Type 0 where
+  pub kind : ℕ
+  pub first : ℕ
+
+pub record Green : Type 0 where
+  -- innermost first
+  pub parents : List Parent
+  -- the last finished one last
+  pub children : List Tree
+  -- rows and leaves asked for so far
+  pub rows : ℕ
+  pub leaves : ℕ
+  pub dropped : List ℕ
+
+-- rowan's other assertion, a mark past the last child. It is no number of 01's, and never met
+abbrev pub markPastLast : ℕ
+markPastLast = 0
+
+-- how many finished children stood before the first of the innermost open parent
+abbrev pub firstOf : List Parent → ℕ
+firstOf [] = 0
+firstOf (p ∷ ps) = p .first
+
+abbrev pub orNoRoom : ℕ → ℕ → Green → Out Green → Out Green
+orNoRoom room place g go = cond (ltb (g .rows) (room / Limits.treeWidth)) go (refused noRoom place)
+
+abbrev pub orTooManyOpen : ℕ → Green → Out Green → Out Green
+orTooManyOpen place g go = cond (leb Limits.nodes (length (g .parents))) (refused tooManyOpen place) go
+
+-- `token`: one finished child more
+unfoldable pub token : ℕ → ℕ → Leaf → Green → Out Green
+token room place l g =
+    orNoRoom room place g
+    (went (record { parents = g .parents; children = g .children ++ (leaf (l .kind) (l .start) (l .size) ∷ []); rows = g .rows + 1; leaves = g .leaves + 1; dropped = g .dropped }))
+
+-- a parent is pushed, with a count of finished children as its first
+unfoldable pub pushed : ℕ → ℕ → Green → Green
+pushed kind first g = record { parents = record { kind = kind; first = first } ∷ g .parents; children = g .children; rows = g .rows + 1; leaves = g .leaves; dropped = g .dropped }
+
+-- `start_node`: what comes next is its first child
+unfoldable pub startNode : ℕ → ℕ → ℕ → Green → Out Green
+startNode room place kind g = orTooManyOpen place g (orNoRoom room place g (went (pushed kind (length (g .children)) g)))
+
+-- `start_node_at`: "assert!(checkpoint <= self.children.len())", and where a parent is open "assert!(checkpoint >= first_child)"
+unfoldable pub startNodeAt : ℕ → ℕ → ℕ → ℕ → Green → Out Green
+startNodeAt room place kind mark g =
+    cond (ltb (length (g .children)) mark) (refused markPastLast place)
+    (cond (ltb mark (firstOf (g .parents))) (refused markBeforeNode place)
+    (orTooManyOpen place g (orNoRoom room place g (went (pushed kind mark g)))))
+
+-- the innermost parent takes its children off the stack and goes onto it as one
+abbrev pub popped : List Parent → List Tree → List Parent × List Tree
+popped [] children = ([], children)
+popped (p ∷ ps) children = (ps, take (p .first) children ++ (nodeOf (p .kind) (drop (p .first) children) ∷ []))
+
+-- `finish_node`
+unfoldable pub finishNode : ℕ → ℕ → Green → Out Green
+finishNode room place g =
+    let left = popped (g .parents) (g .children) in
+    orNoRoom room place g (went (record { parents = left .0; children = left .1; rows = g .rows + 1; leaves = g .leaves; dropped = g .dropped }))
+
+-- rowan's builder, for a tree buffer of so many numbers. "A mark counts finished children"; a parent's frame stands on the stack
+abbrev pub rowan : ℕ → Builder
+rowan room =
+    record {
+      State = Green;
+      Mark = ℕ;
+      Frame = Unit {0};
+      mark = λ g. length (g .children);
+      frame = λ g. tt;
+      leaf = token room;
+      start = startNode room;
+      startAt = startNodeAt room;
+      finish = λ place kind f. finishNode room place;
+      drop = λ i reason g. record { parents = g .parents; children = g .children; rows = g .rows; leaves = g .leaves; dropped = g .dropped ++ droppedRow i reason (g .leaves) };
+    }
+
+-- nothing was built yet
+abbrev pub nothing : Green
+nothing = record { parents = []; children = []; rows = 0; leaves = 0; dropped = [] }
