@@ -4,7 +4,7 @@ use borrow.Author.Needs.{needs}
 use lib.Dec.{eqb}
 use lib.ListN.{getD}
 use mathlib.Core.Bool.{Bool, true, false, cond}
-use mathlib.Core.Path.{_≡_, refl, sym, _∙_, ap, ap₂}
+use mathlib.Core.Path.{_≡_, refl, sym, _∙_, ap}
 use native.Mathlib.Omega.{arith}
 use Rattle.rules.proofs.Table.{at-cell}
 use Rattle.rules.specs.Limits
@@ -17,33 +17,33 @@ use Rattle.syntax.proofs.parse_scope.ParseScope.stop_by_scope.Tie as ti
 abbrev mark : Bool → ℕ
 mark stop = cond stop 120 46
 
+-- what stands in the table, by row and column
+abbrev rule : ℕ → ℕ → ℕ
+rule row kind = mark (stops (getD scopes row Root) kind)
+
 marked : (stop : Bool) → eqb (mark stop) 120 ≡ stop
 marked true = refl
 marked false = refl
 
-number-requires : tie.Need-number-requires
-number-requires c κs = search needs
-
 mul-result : tie.Need-mul-result
-mul-result c = let row = numbered (c .before .before .args .self) in omega arith
+mul-result c = let scope = numbered (c .before .before .args .self) in omega arith
 
 add-result : tie.Need-add-result
-add-result c = let row = numbered (c .before .before .args .self) in omega arith
+add-result c = let scope = numbered (c .before .before .args .self) in omega arith
 
 array-read-result : tie.Need-array-read-result
-array-read-result c = let row = numbered (c .before .before .args .self) in omega arith
+array-read-result c = let scope = numbered (c .before .before .args .self) in omega arith
 
 returns : tie.Need-returns
 unfolding stops
 returns c =
-    let row = numbered (c .before .before .args .self) in
-    ap (λ (m : ℕ). eqb m 120)
-    (at-cell 320 Limits.kinds (λ row kind. mark (stops (getD scopes row Root) kind)) 0 (c .number .result) (c .before .before .args .kind) (c .before .if1 .taken) (omega arith))
-    ∙ rw (c .number .ensures, row .1) (marked _)
+    let scope = numbered (c .before .before .args .self) in
+    ap (λ (m : ℕ). eqb m 120) (at-cell 320 Limits.kinds rule 0 (c .number .result) (c .before .before .args .kind) (c .before .if1 .taken) (omega arith))
+    ∙ rw (c .number .ensures, scope .1) (marked _)
 
 returns-2 : tie.Need-returns-2
 returns-2 c = sym (no-stop _ _ (c .if1 .left))
 
 pub stop-by-scope-spec : {M : Type 1} → statement M
 stop-by-scope-spec =
-    tie.close (tie.spec number-requires mul-result add-result array-read-result returns returns-2)
+    tie.close (tie.spec (λ c κs. search needs) mul-result add-result array-read-result returns returns-2)

@@ -7,12 +7,6 @@ use Rattle.rules.specs.Limits
 use Rattle.syntax.proofs.syntax_kind.SyntaxKind.from_token.Statement.{statement}
 use Rattle.syntax.proofs.syntax_kind.SyntaxKind.from_token.Tie as tie
 
-mul-result : tie.Need-mul-result
-mul-result c = search needs
-
-array-read-result : tie.Need-array-read-result
-array-read-result c = search needs
-
 returns : tie.Need-returns
 unfolding leafKind
 returns c = at Limits.kinds leafKind 0 (c .before .args .kind) (c .if1 .taken)
@@ -22,4 +16,4 @@ unfolding leafKind
 returns-2 c = rw (le-ltb _ _ (c .if1 .left))
 
 pub from-token-spec : {M : Type 1} → statement M
-from-token-spec = tie.close (tie.spec mul-result array-read-result returns returns-2)
+from-token-spec = tie.close (tie.spec (λ c. search needs) (λ c. search needs) returns returns-2)

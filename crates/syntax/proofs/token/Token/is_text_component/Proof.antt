@@ -15,9 +15,6 @@ parts : (kind : ℕ) → isTextComponent kind ≡ ((isTrivia kind || eqb kind To
 unfolding isTextComponent isTrivia
 parts kind = simp (or-false, ← or-assoc)
 
-is-trivia-requires : tie.Need-is-trivia-requires
-is-trivia-requires c κs = search needs
-
 -- what the first two questions came to
 two : (c : tie.Joined1) → c .if1 .if2 ≡ (isTrivia (c .before .before .args .kind) || eqb (c .before .before .args .kind) Token.Word)
 two c = ⊎-elim (λ w. w .1 ∙ rw (← c .before .is-trivia .ensures, w .0 .taken)) (λ w. w .1 ∙ rw (← c .before .is-trivia .ensures, w .0 .left)) (c .if1 .came)
@@ -29,4 +26,4 @@ returns-2 : tie.Need-returns-2
 returns-2 c = rw (parts _, ← two (c .before), c .if2 .left)
 
 pub is-text-component-spec : {M : Type 1} → statement M
-is-text-component-spec = tie.close (tie.spec is-trivia-requires returns returns-2)
+is-text-component-spec = tie.close (tie.spec (λ c κs. search needs) returns returns-2)
