@@ -49,6 +49,7 @@ impl Argument {
         }
     }
 
+    // Whether it is a term, and no opening brace.
     fn is_term(self) -> bool
         ensures { λ r. ⌜ r ≡ isTerm (argumentOf self) ⌝ }
     {
@@ -99,6 +100,7 @@ fn next_state(states: &[u32], state: u32, argument: Argument) -> u32
 }
 
 impl ArgMatcher {
+    // A count of terms from 0. A maximum of 0 accepts nothing from the start.
     fn start_at_most(max: u32) -> ArgMatcher
         ensures { λ r. ⌜ matcherOf r ≡ startAtMost max ⌝ }
     {
@@ -123,6 +125,7 @@ impl ArgMatcher {
         }
     }
 
+    // Whether it accepts everything.
     pub fn is_greedy(self) -> bool
         ensures { λ r. ⌜ r ≡ isGreedy (matcherOf self) ⌝ }
     {

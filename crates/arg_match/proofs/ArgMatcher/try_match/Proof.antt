@@ -9,10 +9,7 @@ use Rattle.arg_match.proofs.ArgMatcher.try_match.Statement.{statement}
 use Rattle.arg_match.proofs.ArgMatcher.try_match.Tie as tie
 
 add-t12 : tie.Need-add-t12
-add-t12 c =
-    let less = ltb-true (c .before .before .before .before .self .given .0 .1 .0) (c .before .before .before .before .self .given .0 .0) (c .if2 .taken) in
-    let fits = c .before .before .before .known-told .given .0 in
-    omega arith
+add-t12 c = let fits = c .before .before .before .known-told .given .0 in omega (arith, ltb-true)
 
 returns : tie.Need-returns
 unfolding tryMatch
