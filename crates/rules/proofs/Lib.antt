@@ -1,3 +1,4 @@
 -- Theorems about the rules alone, and the laws by which other crates use their definitions.
 pub mod Characters
 pub mod Flat
+pub mod Table

@@ -57,15 +57,19 @@ pub data Tried : Type 0 where
   refused : Tried
   accepted : Matcher → Tried
 
--- "State row: for t, b, p the next state, or 0 for not accepted." States count from 1
+-- "State row: for t, b, p the next state, or 0 for not accepted." States count from 1: 0 is none, and accepts nothing
 abbrev pub nextState : List ℕ → ℕ → Argument → ℕ
-nextState states state a = cell Limits.stateWidth states (state - 1) (column a)
+nextState states state a = cond (eqb state 0) 0 (cell Limits.stateWidth states (state - 1) (column a))
 
--- the matcher that a shape starts with. "Range 0 is not form 0: it runs a matcher that accepts nothing." "Greedy commands, infix too"
+-- "Range 0 is not form 0: it runs a matcher that accepts nothing."
+abbrev pub startAtMost : ℕ → Matcher
+startAtMost n = cond (eqb n 0) nothing (atMost n 0)
+
+-- the matcher that a shape starts with. "Greedy commands, infix too"
 unfoldable pub startMatch : ℕ → ℕ → Matcher
 startMatch form value =
-    cond (eqb form formFixed) (cond (eqb value 0) nothing (atMost value 0))
-    (cond (eqb form formRange) (cond (eqb value 0) nothing (atMost value 0))
+    cond (eqb form formFixed) (startAtMost value)
+    (cond (eqb form formRange) (startAtMost value)
     (cond (eqb form formGreedy) greedy
     (cond (eqb form formGlob) (glob value)
     (cond (eqb form formInfixGreedy) greedy nothing))))

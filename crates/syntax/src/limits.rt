@@ -1,4 +1,7 @@
 // The limits of 01, and how many numbers a row of each table has.
+ghost use mathlib.Core.Path.{_≡_};
+ghost use Rattle.syntax.specs.Numbers.{limits};
+
 pub struct Limits;
 
 impl Limits {
@@ -26,4 +29,24 @@ impl Limits {
     pub const TREE_WIDTH: usize = 4;
 
     pub const DROPPED_WIDTH: usize = 3;
+
+    // All of them, in order. The contract holds each to 01's number.
+    pub fn numbers() -> [usize; 12]
+        ensures { λ r. ⌜ r ≡ limits ⌝ }
+    {
+        [
+            Self::TEXT,
+            Self::TOKENS,
+            Self::SHAPES,
+            Self::STATES,
+            Self::NODES,
+            Self::KINDS,
+            Self::SYNTAX_KINDS,
+            Self::TOKEN_WIDTH,
+            Self::SHAPE_WIDTH,
+            Self::STATE_WIDTH,
+            Self::TREE_WIDTH,
+            Self::DROPPED_WIDTH,
+        ]
+    }
 }

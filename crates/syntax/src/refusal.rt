@@ -1,4 +1,7 @@
 // The numbers of refusal of 01.
+ghost use mathlib.Core.Path.{_≡_};
+ghost use Rattle.syntax.specs.Numbers.{refusals};
+
 pub struct Refusal;
 
 impl Refusal {
@@ -20,4 +23,21 @@ impl Refusal {
     pub const NO_ROOM: u32 = 8;
     // A sheet that can't be read.
     pub const SHEET: u32 = 9;
+
+    // All of them, in order. The contract holds each to 01's number.
+    pub fn numbers() -> [u32; 9]
+        ensures { λ r. ⌜ r ≡ refusals ⌝ }
+    {
+        [
+            Self::LIMIT,
+            Self::DROPPED_ROOM,
+            Self::TOKEN,
+            Self::SHAPE,
+            Self::GREEDY_ENVIRONMENT,
+            Self::MARK_BEFORE_NODE,
+            Self::TOO_MANY_OPEN,
+            Self::NO_ROOM,
+            Self::SHEET,
+        ]
+    }
 }

@@ -1,4 +1,7 @@
 // What a tree row and a dropped row say by their numbers.
+ghost use mathlib.Core.Path.{_≡_};
+ghost use Rattle.syntax.specs.Numbers.{tags, reasons};
+
 pub struct Tag;
 
 impl Tag {
@@ -7,6 +10,13 @@ impl Tag {
     pub const LEAF: u32 = 1;
 
     pub const FINISH: u32 = 2;
+
+    // All of them, in order. The contract holds each to 01's number.
+    pub fn numbers() -> [u32; 3]
+        ensures { λ r. ⌜ r ≡ tags ⌝ }
+    {
+        [Self::START, Self::LEAF, Self::FINISH]
+    }
 }
 
 // Why a token was dropped.
@@ -18,4 +28,11 @@ impl Reason {
     pub const OPENER: u32 = 2;
 
     pub const CLOSER: u32 = 3;
+
+    // All of them, in order. The contract holds each to 01's number.
+    pub fn numbers() -> [u32; 3]
+        ensures { λ r. ⌜ r ≡ reasons ⌝ }
+    {
+        [Self::TRIVIA, Self::OPENER, Self::CLOSER]
+    }
 }

@@ -1,4 +1,9 @@
 // The kinds of tree rows (syntax.rs), in the order of the Rust's enum.
+ghost use mathlib.Core.Path.{_≡_};
+ghost use Rattle.rules.specs.Kinds.{leafKind};
+ghost use Rattle.syntax.specs.Numbers.{syntaxKinds};
+use crate::limits::Limits;
+
 pub struct SyntaxKind;
 
 impl SyntaxKind {
@@ -91,4 +96,116 @@ impl SyntaxKind {
     pub const ITEM_FORMULA: u32 = 43;
 
     pub const SCOPE_ROOT: u32 = 44;
+
+    // All of them, in order.
+    const ALL: [u32; 45] = [
+        Self::TOKEN_ERROR,
+        Self::TOKEN_LINE_BREAK,
+        Self::TOKEN_WHITE_SPACE,
+        Self::TOKEN_COMMENT,
+        Self::TOKEN_LBRACE,
+        Self::TOKEN_RBRACE,
+        Self::TOKEN_LBRACKET,
+        Self::TOKEN_RBRACKET,
+        Self::TOKEN_LPAREN,
+        Self::TOKEN_RPAREN,
+        Self::TOKEN_COMMA,
+        Self::TOKEN_TILDE,
+        Self::TOKEN_SLASH,
+        Self::TOKEN_WORD,
+        Self::TOKEN_DOLLAR,
+        Self::TOKEN_BEGIN_MATH,
+        Self::TOKEN_END_MATH,
+        Self::TOKEN_AMPERSAND,
+        Self::TOKEN_HASH,
+        Self::TOKEN_ASTERISK,
+        Self::TOKEN_AT_SIGN,
+        Self::TOKEN_UNDERSCORE,
+        Self::TOKEN_CARET,
+        Self::TOKEN_APOSTROPHE,
+        Self::TOKEN_DITTO,
+        Self::TOKEN_SEMICOLON,
+        Self::TOKEN_COMMAND_SYM,
+        Self::CLAUSE_COMMAND_NAME,
+        Self::CLAUSE_ARGUMENT,
+        Self::CLAUSE_LR,
+        Self::ITEM_NEW_LINE,
+        Self::ITEM_TEXT,
+        Self::ITEM_CURLY,
+        Self::ITEM_BRACKET,
+        Self::ITEM_PAREN,
+        Self::ITEM_CMD,
+        Self::ITEM_ENV,
+        Self::ITEM_LR,
+        Self::ITEM_BEGIN,
+        Self::ITEM_END,
+        Self::ITEM_BLOCK_COMMENT,
+        Self::ITEM_TYPST_CODE,
+        Self::ITEM_ATTACH_COMPONENT,
+        Self::ITEM_FORMULA,
+        Self::SCOPE_ROOT,
+    ];
+
+    // The contract holds each constant to 01's number.
+    pub fn numbers() -> [u32; 45]
+        ensures { λ r. ⌜ r ≡ syntaxKinds ⌝ }
+    {
+        Self::ALL
+    }
+
+    // For each kind of token, which stands beside it, the kind of the leaf that it becomes.
+    const OF_TOKEN: [u32; 40] = [
+        Self::TOKEN_LINE_BREAK, // LINE_BREAK
+        Self::TOKEN_WHITE_SPACE, // WHITESPACE
+        Self::TOKEN_COMMENT, // LINE_COMMENT
+        Self::TOKEN_LBRACE, // LEFT_CURLY
+        Self::TOKEN_LBRACKET, // LEFT_BRACKET
+        Self::TOKEN_LPAREN, // LEFT_PAREN
+        Self::TOKEN_RBRACE, // RIGHT_CURLY
+        Self::TOKEN_RBRACKET, // RIGHT_BRACKET
+        Self::TOKEN_RPAREN, // RIGHT_PAREN
+        Self::TOKEN_COMMA, // COMMA
+        Self::TOKEN_TILDE, // TILDE
+        Self::TOKEN_SLASH, // SLASH
+        Self::TOKEN_AMPERSAND, // AMPERSAND
+        Self::TOKEN_CARET, // CARET
+        Self::TOKEN_APOSTROPHE, // APOSTROPHE
+        Self::TOKEN_DITTO, // DITTO
+        Self::TOKEN_SEMICOLON, // SEMICOLON
+        Self::TOKEN_HASH, // HASH
+        Self::TOKEN_ASTERISK, // ASTERISK
+        Self::TOKEN_AT_SIGN, // AT_SIGN
+        Self::TOKEN_UNDERSCORE, // UNDERSCORE
+        Self::TOKEN_WORD, // WORD
+        Self::TOKEN_DOLLAR, // DOLLAR
+        Self::ITEM_NEW_LINE, // NEW_LINE
+        Self::TOKEN_ERROR, // ERROR
+        Self::TOKEN_WORD, // MACRO_ARG
+        Self::CLAUSE_COMMAND_NAME, // GENERIC
+        Self::TOKEN_COMMAND_SYM, // BEGIN_ENVIRONMENT
+        Self::TOKEN_COMMAND_SYM, // END_ENVIRONMENT
+        Self::TOKEN_BEGIN_MATH, // BEGIN_MATH
+        Self::TOKEN_END_MATH, // END_MATH
+        Self::TOKEN_ERROR, // ERROR_BEGIN_ENVIRONMENT
+        Self::TOKEN_ERROR, // ERROR_END_ENVIRONMENT
+        Self::CLAUSE_COMMAND_NAME, // IF_FALSE
+        Self::CLAUSE_COMMAND_NAME, // IF_TYPST
+        Self::CLAUSE_COMMAND_NAME, // IF
+        Self::CLAUSE_COMMAND_NAME, // ELSE
+        Self::CLAUSE_COMMAND_NAME, // END_IF
+        Self::CLAUSE_COMMAND_NAME, // LEFT
+        Self::CLAUSE_COMMAND_NAME, // RIGHT
+    ];
+
+    // `From<Token>`: the kind of the leaf that a token becomes. A number over 39 is no token's kind and gives TOKEN_ERROR.
+    pub fn from_token(kind: u32) -> u32
+        ensures { λ r. ⌜ r ≡ leafKind kind ⌝ }
+    {
+        let place = kind as usize;
+        if place < Limits::KINDS {
+            Self::OF_TOKEN[place]
+        } else {
+            Self::TOKEN_ERROR
+        }
+    }
 }

@@ -1,4 +1,8 @@
 // The kinds of tokens (token.rs), by 01's numbers.
+ghost use mathlib.Core.Path.{_≡_};
+ghost use Rattle.rules.specs.Kinds.{isTextComponent, isTrivia};
+ghost use Rattle.syntax.specs.Numbers.{tokenKinds};
+
 pub struct Token;
 
 impl Token {
@@ -81,4 +85,69 @@ impl Token {
     pub const LEFT: u32 = 38;
 
     pub const RIGHT: u32 = 39;
+
+    // All of them, in order.
+    const ALL: [u32; 40] = [
+        Self::LINE_BREAK,
+        Self::WHITESPACE,
+        Self::LINE_COMMENT,
+        Self::LEFT_CURLY,
+        Self::LEFT_BRACKET,
+        Self::LEFT_PAREN,
+        Self::RIGHT_CURLY,
+        Self::RIGHT_BRACKET,
+        Self::RIGHT_PAREN,
+        Self::COMMA,
+        Self::TILDE,
+        Self::SLASH,
+        Self::AMPERSAND,
+        Self::CARET,
+        Self::APOSTROPHE,
+        Self::DITTO,
+        Self::SEMICOLON,
+        Self::HASH,
+        Self::ASTERISK,
+        Self::AT_SIGN,
+        Self::UNDERSCORE,
+        Self::WORD,
+        Self::DOLLAR,
+        Self::NEW_LINE,
+        Self::ERROR,
+        Self::MACRO_ARG,
+        Self::GENERIC,
+        Self::BEGIN_ENVIRONMENT,
+        Self::END_ENVIRONMENT,
+        Self::BEGIN_MATH,
+        Self::END_MATH,
+        Self::ERROR_BEGIN_ENVIRONMENT,
+        Self::ERROR_END_ENVIRONMENT,
+        Self::IF_FALSE,
+        Self::IF_TYPST,
+        Self::IF,
+        Self::ELSE,
+        Self::END_IF,
+        Self::LEFT,
+        Self::RIGHT,
+    ];
+
+    // The contract holds each constant to 01's number.
+    pub fn numbers() -> [u32; 40]
+        ensures { λ r. ⌜ r ≡ tokenKinds ⌝ }
+    {
+        Self::ALL
+    }
+
+    // Blanks, breaks and comments.
+    pub fn is_trivia(kind: u32) -> bool
+        ensures { λ r. ⌜ r ≡ isTrivia kind ⌝ }
+    {
+        kind == Self::LINE_BREAK || kind == Self::WHITESPACE || kind == Self::LINE_COMMENT
+    }
+
+    // What goes on a text: the question inside the Rust's `text`.
+    pub fn is_text_component(kind: u32) -> bool
+        ensures { λ r. ⌜ r ≡ isTextComponent kind ⌝ }
+    {
+        Self::is_trivia(kind) || kind == Self::WORD || kind == Self::COMMA
+    }
 }

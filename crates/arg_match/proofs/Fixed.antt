@@ -1,0 +1,54 @@
+-- A contract fixes the answer: two answers that stand for the same value of the rules are the same, since that value leads back to them.
+-- Assumes nothing.
+use mathlib.Core.Path.{_≡_, refl, sym, _∙_, ap}
+use Rattle.rules.specs.Matcher as rules
+use Rattle.arg_match.specs.Answers.{matchedOf, matcherOf, triedOf}
+use Rattle.arg_match.specs.declared.ArgMatcher.{ArgMatcher}
+use Rattle.arg_match.specs.declared.ArgMatcher.the-variants.{None, AtMostTerm, Greedy, Glob}
+use Rattle.arg_match.specs.declared.Tried.{Tried}
+use Rattle.arg_match.specs.declared.Tried.the-variants as tried
+use Rattle.arg_match.specs.declared.Matched.{Matched}
+use Rattle.arg_match.specs.declared.Matched.the-variants as matched
+
+module _ {A B : Type 0} (of : A → B) (back : B → A) (returns : (a : A) → back (of a) ≡ a) where
+  fixed : (a b : A) → of a ≡ of b → a ≡ b
+  fixed a b e = sym (returns a) ∙ ap back e ∙ returns b
+
+abbrev matcher : rules.Matcher → ArgMatcher
+matcher rules.nothing = None
+matcher (rules.atMost n counter) = AtMostTerm n counter
+matcher rules.greedy = Greedy
+matcher (rules.glob state) = Glob state
+
+from-matcher : (m : ArgMatcher) → matcher (matcherOf m) ≡ m
+from-matcher None = refl
+from-matcher (AtMostTerm max counter) = refl
+from-matcher Greedy = refl
+from-matcher (Glob state) = refl
+
+pub one-matcher : (a b : ArgMatcher) → matcherOf a ≡ matcherOf b → a ≡ b
+one-matcher = fixed matcherOf matcher from-matcher
+
+abbrev tried-of : rules.Tried → Tried
+tried-of rules.refused = tried.Refused
+tried-of (rules.accepted m) = tried.Accepted (matcher m)
+
+from-tried : (t : Tried) → tried-of (triedOf t) ≡ t
+from-tried tried.Refused = refl
+from-tried (tried.Accepted m) = ap tried.Accepted (from-matcher m)
+
+pub one-tried : (a b : Tried) → triedOf a ≡ triedOf b → a ≡ b
+one-tried = fixed triedOf tried-of from-tried
+
+abbrev matched-of : rules.Matched → Matched
+matched-of rules.none = matched.Refused
+matched-of (rules.whole m) = matched.Whole (matcher m)
+matched-of (rules.bare m) = matched.Bare (matcher m)
+
+from-matched : (t : Matched) → matched-of (matchedOf t) ≡ t
+from-matched matched.Refused = refl
+from-matched (matched.Whole m) = ap matched.Whole (from-matcher m)
+from-matched (matched.Bare m) = ap matched.Bare (from-matcher m)
+
+pub one-matched : (a b : Matched) → matchedOf a ≡ matchedOf b → a ≡ b
+one-matched = fixed matchedOf matched-of from-matched

@@ -1,0 +1,3 @@
+pub mod AtMost
+pub mod Columns
+pub mod Fixed
