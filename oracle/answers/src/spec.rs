@@ -1,5 +1,6 @@
 //! Command specifications: named shapes, for the Rust and as document 01's rows.
 
+use std::fmt;
 use std::str::FromStr;
 
 use mitex_spec::{
@@ -114,6 +115,37 @@ impl Form {
             },
             Form::Left1 | Form::Infix => panic!("forms 5 and 6 need class 1"),
         }
+    }
+}
+
+impl fmt::Display for Form {
+    fn fmt(&self, f: &mut fmt::Formatter<'_>) -> fmt::Result {
+        match self {
+            Form::None => write!(f, "none"),
+            Form::Fixed(len) => write!(f, "fixed{len}"),
+            Form::Range(max) => write!(f, "range{max}"),
+            Form::Greedy => write!(f, "greedy"),
+            Form::Glob(glob) => write!(f, "glob:{glob}"),
+            Form::Left1 => write!(f, "left1"),
+            Form::Infix => write!(f, "infix"),
+        }
+    }
+}
+
+impl fmt::Display for Named {
+    fn fmt(&self, f: &mut fmt::Formatter<'_>) -> fmt::Result {
+        let class = match self.class {
+            Class::Command => "",
+            Class::Environment => "env-",
+        };
+        write!(f, "{}={class}{}", self.name, self.form)
+    }
+}
+
+impl fmt::Display for Spec {
+    fn fmt(&self, f: &mut fmt::Formatter<'_>) -> fmt::Result {
+        let shapes: Vec<String> = self.shapes.iter().map(Named::to_string).collect();
+        write!(f, "{}", shapes.join(" "))
     }
 }
 

@@ -75,3 +75,12 @@ fn as_many_nodes_as_a_text_opens() {
     let deepest = with_deep_stack(move || run(&deep, "").map(|run| run.deepest));
     assert_eq!(deepest, Ok(3_001));
 }
+
+#[test]
+fn shapes_are_written_as_they_are_read() {
+    let shapes = "z=none f*=fixed2 r=range0 d=greedy s=glob:{,b}t l=left1 o=infix m=env-fixed1";
+    let spec: Spec = shapes.parse().expect("shapes");
+    assert_eq!(spec.to_string(), shapes);
+    assert!("m=env-left1".parse::<Spec>().is_err());
+    assert!("f=fixed256".parse::<Spec>().is_err());
+}

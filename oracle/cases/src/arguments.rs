@@ -1,6 +1,7 @@
 //! Commands with arguments of every sort, inside every scope.
 
 use crate::dice::Dice;
+use crate::parts::PARTS;
 
 const TAKERS: [&str; 16] = [
     "\\f",
@@ -52,4 +53,17 @@ pub fn formula(dice: &mut Dice, count: usize) -> String {
         text += dice.pick(&TAKEN);
     }
     text + closer
+}
+
+/// Each part in each scope: by itself, and behind commands of three sorts.
+pub fn in_every_scope() -> Vec<String> {
+    let mut formulas = Vec::new();
+    for [opener, closer] in SCOPES {
+        for part in PARTS {
+            for taker in ["1", "\\f", "\\e", "\\d"] {
+                formulas.push(format!("{opener}{taker}{part}2{closer}"));
+            }
+        }
+    }
+    formulas
 }

@@ -5,6 +5,7 @@ use std::collections::HashSet;
 use answers::{Fault, Run, Spec};
 use sheet::Answer;
 
+use crate::arguments::in_every_scope;
 use crate::dice::Dice;
 use crate::limits::{many_arguments, nestings};
 use crate::named::{comment_formulas, paper_formulas, FULL_ROOM};
@@ -69,10 +70,10 @@ impl List {
         false
     }
 
-    /// Every sequence of two parts or fewer, and every part of the kinds that take a
-    /// shape with one.
+    /// Every sequence of two parts or fewer, every part in every scope, and commands
+    /// that are kinds of their own with a shape.
     fn add_short_sequences(&mut self) {
-        for text in (0..=2).flat_map(sequences::all) {
+        for text in (0..=2).flat_map(sequences::all).chain(in_every_scope()) {
             self.add(&text, &usual_shapes());
         }
         for kind in [

@@ -4,7 +4,7 @@
 use std::path::Path;
 
 use answers::with_deep_stack;
-use cases::{read_list, recorded_list, write_list, Counts, SEED};
+use cases::{read_list, recorded_list, write_list, Case, Counts, SEED};
 use model::Slip;
 use sheet::Answer;
 
@@ -69,5 +69,22 @@ fn it_reaches_every_kind_form_scope_and_refusal() {
 #[test]
 fn it_tells_every_slip() {
     let counts = Counts::of(&read_list(&file()));
-    assert_eq!(counts.slips.len(), Slip::ALL.len(), "{:?}", counts.slips);
+    assert_eq!(counts.slips.len(), Slip::LISTED.len(), "{:?}", counts.slips);
+}
+
+/// The kinds that the lexer makes.
+fn kinds() -> impl Iterator<Item = u32> {
+    (0..40).filter(|kind| !(24..=25).contains(kind))
+}
+
+#[test]
+fn it_tells_every_answer_of_the_stop_table() {
+    let cases = read_list(&file());
+    let told = |slip| {
+        let answer = |case: &Case| model::answer(&case.tables, case.room as usize, Some(slip));
+        cases.iter().any(|case| answer(case) != case.answer)
+    };
+    let entries = (0..8).flat_map(|scope| kinds().map(move |kind| Slip::Stop { scope, kind }));
+    let untold: Vec<Slip> = entries.filter(|&slip| !told(slip)).collect();
+    assert_eq!(untold, []);
 }

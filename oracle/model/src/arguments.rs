@@ -35,7 +35,7 @@ impl Reader<'_, '_> {
                 AMPERSAND => return Ok(()),
                 NEW_LINE if self.list.scope == Scope::Environment => return Ok(()),
                 LEFT_BRACKET | LEFT_PAREN => self.eat().and(Ok(true))?,
-                _ if self.list.scope.stops(kind) => return Ok(()),
+                _ if self.stops(kind) => return Ok(()),
                 _ => self.content(true)?,
             };
             if attachable {
@@ -70,7 +70,7 @@ impl Reader<'_, '_> {
                     }
                 }
                 _ => {
-                    if self.list.scope.stops(kind) || !matcher.accepts(Letter::Term, self.tables) {
+                    if self.stops(kind) || !matcher.accepts(Letter::Term, self.tables) {
                         break;
                     }
                     self.argument(|this| this.content(true).and(Ok(())))?;

@@ -16,7 +16,7 @@ impl Reader<'_, '_> {
             start: Some(before),
             last: None,
         };
-        while self.kind().is_some_and(|kind| !scope.stops(kind)) {
+        while self.kind().is_some_and(|kind| !self.stops(kind)) {
             if self.content(true)? {
                 self.list.last = Some(before);
             }

@@ -61,6 +61,16 @@ impl<'t, 'b> Reader<'t, 'b> {
         self.slip == Some(slip)
     }
 
+    /// Whether the present list stops before a token of this kind.
+    pub fn stops(&self, kind: u32) -> bool {
+        let scope = self.list.scope;
+        let slips = self.slips(Slip::Stop {
+            scope: scope as u32,
+            kind,
+        });
+        scope.stops(kind) != slips
+    }
+
     pub fn kind(&self) -> Option<u32> {
         (self.at < self.tables.token_count()).then(|| self.tables.token(self.at).kind)
     }

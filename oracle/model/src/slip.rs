@@ -1,7 +1,8 @@
 //! The slips that look right, as switches.
 
-/// One of document 01's 'Slips that look right'. A run with a slip is wrong on purpose:
-/// a list of cases is good if it tells each of them from the rules.
+/// A slip: one of document 01's 'Slips that look right', or a wrong entry in the stop
+/// table. A run with a slip is wrong on purpose: a list of cases is good if it tells each
+/// of them from the rules.
 #[derive(Debug, Clone, Copy, PartialEq, Eq)]
 pub enum Slip {
     /// Last is saved before it is cleared, so it comes back after the arguments.
@@ -14,10 +15,13 @@ pub enum Slip {
     RangeZeroIsNone,
     /// Only `\iffalse` counts as an opener in a skipped body.
     OnlyIfFalseNests,
+    /// The answer for this scope, by its number from Root, and this token kind.
+    Stop { scope: u32, kind: u32 },
 }
 
 impl Slip {
-    pub const ALL: [Slip; 5] = [
+    /// The slips that document 01 lists.
+    pub const LISTED: [Slip; 5] = [
         Slip::SaveLastFirst,
         Slip::WrapOutside,
         Slip::CurlyStopsScript,

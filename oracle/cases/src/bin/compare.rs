@@ -11,7 +11,7 @@ use std::process::ExitCode;
 
 use answers::{with_deep_stack, Fault, Run, Spec};
 use cases::dice::Dice;
-use cases::{all_sequences, around_limits, by_chance, usual};
+use cases::{all_sequences, around_limits, by_chance, used_shapes, usual};
 
 #[derive(Default)]
 struct Tally {
@@ -103,11 +103,7 @@ impl Tally {
             self.answers += 1;
             if differs(&run, room) {
                 self.differences += 1;
-                let smallest = shrunk(text, spec);
-                println!(
-                    "difference: {smallest:?} with {:?}, found as {text:?}",
-                    spec.shapes
-                );
+                println!("difference: {}", smallest(text, spec));
                 break;
             }
         }
@@ -122,8 +118,8 @@ fn differs_somewhere(text: &str, spec: &Spec) -> bool {
     Run::of(text, spec).is_ok_and(|run| (0..=run.writes.len()).any(|room| differs(&run, room)))
 }
 
-/// The text with characters left out as long as it still differs.
-fn shrunk(text: &str, spec: &Spec) -> String {
+/// The text with characters left out as long as it still differs, and its shapes.
+fn smallest(text: &str, spec: &Spec) -> String {
     let mut chars: Vec<char> = text.chars().collect();
     let mut at = 0;
     while at < chars.len() {
@@ -136,5 +132,7 @@ fn shrunk(text: &str, spec: &Spec) -> String {
             at += 1;
         }
     }
-    chars.into_iter().collect()
+    let text: String = chars.into_iter().collect();
+    let used = used_shapes(&text, spec).unwrap_or_default();
+    format!("{text:?} with {used}")
 }
