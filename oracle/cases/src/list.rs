@@ -24,8 +24,8 @@ const ROWS: usize = 4_096;
 pub fn recorded_list(seed: u64) -> Vec<Case> {
     let mut list = List::default();
     for formula in paper_formulas().iter().chain(&comment_formulas()) {
-        let case = formula.case().expect("a named formula has an answer");
-        list.cases.push(case);
+        let run = formula.run().expect("a named formula has an answer");
+        list.push(&run, formula.room);
     }
     let mut dice = Dice::new(seed);
     list.add_short_sequences();
@@ -63,11 +63,16 @@ impl List {
     fn add_with_room(&mut self, run: &Run, room: u32) -> bool {
         let sheet = run.tables.sheet();
         let fits = sheet.len() <= SHEET && run.writes.len() <= ROWS;
-        if fits && self.seen.insert((sheet, room)) {
-            self.cases.push(Case::of(run, room));
-            return true;
+        let adds = fits && !self.seen.contains(&(sheet, room));
+        if adds {
+            self.push(run, room);
         }
-        false
+        adds
+    }
+
+    fn push(&mut self, run: &Run, room: u32) {
+        self.seen.insert((run.tables.sheet(), room));
+        self.cases.push(Case::of(run, room));
     }
 
     /// Every sequence of two parts or fewer, every part in every scope, and commands

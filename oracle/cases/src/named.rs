@@ -30,9 +30,12 @@ impl Formula {
         Self { room, ..self }
     }
 
+    pub fn spec(&self) -> Spec {
+        self.shapes.parse().expect("shapes of a named formula")
+    }
+
     pub fn run(&self) -> Result<Run, Fault> {
-        let spec: Spec = self.shapes.parse().expect("shapes of a named formula");
-        Run::of(&self.text, &spec)
+        Run::of(&self.text, &self.spec())
     }
 
     pub fn case(&self) -> Result<Case, Fault> {

@@ -1,18 +1,21 @@
 //! Writes the recorded list: `record FOLDER [SEED]` makes cases.bin and formulas.md.
 
+use std::error::Error;
 use std::fmt::Write;
 use std::path::Path;
 
 use answers::with_deep_stack;
-use cases::{comment_formulas, paper_formulas, recorded_list, write_list, Formula, SEED};
+use cases::{
+    comment_formulas, paper_formulas, recorded_list, used_shapes, write_list, Formula, SEED,
+};
 
 /// The size that the list may have.
 const MOST: usize = 3_000_000;
 
-fn main() -> std::io::Result<()> {
+fn main() -> Result<(), Box<dyn Error>> {
     let mut words = std::env::args().skip(1);
-    let folder = words.next().expect("usage: record FOLDER [SEED]");
-    let seed = words.next().map_or(SEED, |s| s.parse().expect("a seed"));
+    let folder = words.next().ok_or("usage: record FOLDER [SEED]")?;
+    let seed = words.next().map_or(Ok(SEED), |seed| seed.parse())?;
     let cases = with_deep_stack(move || recorded_list(seed));
     let bytes = write_list(&cases);
     assert!(bytes.len() <= MOST, "{} bytes are too many", bytes.len());
@@ -53,11 +56,17 @@ fn table(page: &mut String, title: &str, column: &str, first: usize, formulas: &
     page.push_str(&head);
     for (number, formula) in (first..).zip(formulas) {
         let text = shortened(&formula.text);
-        let shapes = match formula.shapes.len() {
-            0 => String::new(),
-            _ => code(formula.shapes),
-        };
+        let shapes = shapes(formula);
         writeln!(page, "| {number} | {text} | {shapes} | {} |", formula.said).expect("a String");
+    }
+}
+
+/// The shapes that the formula uses. Its table may hold more.
+fn shapes(formula: &Formula) -> String {
+    let used = used_shapes(&formula.text, &formula.spec()).expect("a named formula has tokens");
+    match used.shapes.len() {
+        0 => String::new(),
+        _ => code(&used.to_string()),
     }
 }
 
