@@ -1,8 +1,9 @@
 //! Document 01 as a plain program.
 //!
-//! It is written from the document and shares nothing with the parser of mitex, so
-//! that holding the two against each other tests the document. Unlike the Rust it
-//! takes any tables, also those that no lexer makes, and it writes to lent buffers.
+//! It shares no code with the parser of mitex, so that holding the two against each other
+//! tests how the document is read. Where the document itself says that a routine is as the
+//! source has it, so it is here: agreement there shows a true copy and no more. Unlike the
+//! Rust it takes any tables, also those that no lexer makes, and it writes to lent buffers.
 
 mod arguments;
 mod checks;

@@ -99,6 +99,23 @@ fn later_refusals_leave_zeros() {
 }
 
 #[test]
+fn one_brace_over_the_limit_is_refused_before_reading() {
+    let braces = |count: usize| {
+        let tokens: Vec<u32> = (0..count as u32).flat_map(|at| [3, at, 1, 0]).collect();
+        refusal(&tables(&vec![b'{'; count], &tokens, &[], &[]), 3 * count)
+    };
+    assert_eq!(braces(16_385), (1, 0));
+    assert_ne!(braces(16_384), (1, 0));
+}
+
+#[test]
+fn seven_numbers_hold_one_row_of_two() {
+    let mut tree = [MARK; 7];
+    let refusal = run(&Tables::default(), &mut tree, &mut [], None).expect_err("a refusal");
+    assert_eq!((refusal.number, refusal.place, tree), (8, 0, [0; 7]));
+}
+
+#[test]
 fn success_keeps_what_later_elements_held() {
     let mut tree = [MARK; 18];
     let mut dropped = [MARK; 7];
