@@ -205,6 +205,43 @@ cases =
       room = 1000;
       expected = gives (nodeOf SyntaxKind.ScopeRoot ((nodeOf SyntaxKind.ItemCmd (leaf SyntaxKind.ClauseCommandName 0 2 ∷ (nodeOf SyntaxKind.ClauseArgument (leaf SyntaxKind.TokenLBracket 2 1 ∷ [])) ∷ [])) ∷ (nodeOf SyntaxKind.ItemText (leaf SyntaxKind.TokenWord 3 1 ∷ [])) ∷ leaf SyntaxKind.TokenRBracket 4 1 ∷ (nodeOf SyntaxKind.ItemCurly (leaf SyntaxKind.TokenLBrace 5 1 ∷ (nodeOf SyntaxKind.ItemText (leaf SyntaxKind.TokenWord 6 1 ∷ [])) ∷ leaf SyntaxKind.TokenRBrace 7 1 ∷ [])) ∷ [])) ([]);
     }
+    -- 01's formulas end here. The rest are answers of the Rust that tell a slip which those leave untold
+    -- `a_\r^c`, `\r` range 0: "Treating range 0 as no shape: after a script, last differs." The second Attach has no Arg
+    ∷ record {
+      text = 97 ∷ 95 ∷ 92 ∷ 114 ∷ 94 ∷ 99 ∷ [];
+      tokens = Token.Word ∷ 0 ∷ 1 ∷ 0 ∷ Token.Underscore ∷ 1 ∷ 1 ∷ 0 ∷ Token.Generic ∷ 2 ∷ 2 ∷ 1 ∷ Token.Caret ∷ 4 ∷ 1 ∷ 0 ∷ Token.Word ∷ 5 ∷ 1 ∷ 0 ∷ [];
+      shapes = 1 ∷ 2 ∷ 0 ∷ [];
+      states = [];
+      room = 1000;
+      expected = gives (nodeOf SyntaxKind.ScopeRoot ((nodeOf SyntaxKind.ItemAttachComponent ((nodeOf SyntaxKind.ClauseArgument ((nodeOf SyntaxKind.ItemText (leaf SyntaxKind.TokenWord 0 1 ∷ [])) ∷ [])) ∷ leaf SyntaxKind.TokenUnderscore 1 1 ∷ (nodeOf SyntaxKind.ItemCmd (leaf SyntaxKind.ClauseCommandName 2 2 ∷ [])) ∷ [])) ∷ (nodeOf SyntaxKind.ItemAttachComponent (leaf SyntaxKind.TokenCaret 4 1 ∷ leaf SyntaxKind.TokenWord 5 1 ∷ [])) ∷ [])) ([]);
+    }
+    -- `\f 1 ^c`, `\f` fixed 2: the accepted argument drops the first blank, dropped (1,1,1); the second is left, and follows the command's node
+    ∷ record {
+      text = 92 ∷ 102 ∷ 32 ∷ 49 ∷ 32 ∷ 94 ∷ 99 ∷ [];
+      tokens = Token.Generic ∷ 0 ∷ 2 ∷ 1 ∷ Token.Whitespace ∷ 2 ∷ 1 ∷ 0 ∷ Token.Word ∷ 3 ∷ 1 ∷ 0 ∷ Token.Whitespace ∷ 4 ∷ 1 ∷ 0 ∷ Token.Caret ∷ 5 ∷ 1 ∷ 0 ∷ Token.Word ∷ 6 ∷ 1 ∷ 0 ∷ [];
+      shapes = 1 ∷ 1 ∷ 2 ∷ [];
+      states = [];
+      room = 1000;
+      expected = gives (nodeOf SyntaxKind.ScopeRoot ((nodeOf SyntaxKind.ItemAttachComponent ((nodeOf SyntaxKind.ClauseArgument ((nodeOf SyntaxKind.ItemCmd (leaf SyntaxKind.ClauseCommandName 0 2 ∷ (nodeOf SyntaxKind.ClauseArgument (leaf SyntaxKind.TokenWord 3 1 ∷ [])) ∷ [])) ∷ leaf SyntaxKind.TokenWhiteSpace 4 1 ∷ [])) ∷ leaf SyntaxKind.TokenCaret 5 1 ∷ leaf SyntaxKind.TokenWord 6 1 ∷ [])) ∷ [])) (1 ∷ 1 ∷ 1 ∷ []);
+    }
+    -- `\f xy` with room for 7 rows: the leaf of `y` is the row too many. "A token is read once its last leaf is written", so it is refused 8 at 2
+    ∷ record {
+      text = 92 ∷ 102 ∷ 32 ∷ 120 ∷ 121 ∷ [];
+      tokens = Token.Generic ∷ 0 ∷ 2 ∷ 1 ∷ Token.Whitespace ∷ 2 ∷ 1 ∷ 0 ∷ Token.Word ∷ 3 ∷ 2 ∷ 0 ∷ [];
+      shapes = 1 ∷ 1 ∷ 2 ∷ [];
+      states = [];
+      room = 28;
+      expected = refuses 8 2;
+    }
+    -- with room for 8: the argument's finish is, and the Word is read. Refused 8 at 3
+    ∷ record {
+      text = 92 ∷ 102 ∷ 32 ∷ 120 ∷ 121 ∷ [];
+      tokens = Token.Generic ∷ 0 ∷ 2 ∷ 1 ∷ Token.Whitespace ∷ 2 ∷ 1 ∷ 0 ∷ Token.Word ∷ 3 ∷ 2 ∷ 0 ∷ [];
+      shapes = 1 ∷ 1 ∷ 2 ∷ [];
+      states = [];
+      room = 32;
+      expected = refuses 8 3;
+    }
     ∷ []
 
 examples : map found cases ≡ map (λ (c : Case). wanted c (c .expected)) cases

@@ -110,7 +110,7 @@ module _ (B : Builder) (source : Source) where
         steps
         ((λ q. went (holdingNone B (withMarks B none none q)))
         ∷ (λ q. arguments (turns B source q) m q)
-        ∷ (λ q. went (withMarks B (p .list .start) none q))
+        ∷ (λ q. went (withMarks B (p .list .start) none q))  -- "empty afterwards"
         ∷ [])
         p
 
