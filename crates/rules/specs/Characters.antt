@@ -45,7 +45,7 @@ abbrev pub firstOf : List (List Range) → List ℕ → ℕ
 firstOf [] bytes = 0
 firstOf (a ∷ rest) bytes = cond (begins a bytes) (length a) (firstOf rest bytes)
 
--- the length of the first character, or 0 if the bytes begin with none
+-- the length of the first character, or 0 if the bytes begin with none. "A Word gives one argument a character"
 unfoldable pub charLength : List ℕ → ℕ
 charLength bytes = firstOf alternatives bytes
 
@@ -54,7 +54,7 @@ unfoldable pub characters : ℕ → List ℕ → Bool
 characters zero bytes = eqb (length bytes) 0
 characters (suc n) bytes = eqb (length bytes) 0 || (not (eqb (charLength bytes) 0) && characters n (drop (charLength bytes) bytes))
 
--- whether the bytes are UTF-8: there are no more characters than bytes
+-- "not UTF-8 (RFC 3629)": whether the bytes are. There are no more characters than bytes
 unfoldable pub isUtf8 : List ℕ → Bool
 isUtf8 bytes = characters (length bytes) bytes
 

@@ -31,7 +31,7 @@ shapeCount t = length (t .shapes) / Limits.shapeWidth
 abbrev pub stateCount : Tables → ℕ
 stateCount t = length (t .states) / Limits.stateWidth
 
--- the first of so many rows, counted from `from`, that is not right
+-- "first such row": the first of so many rows, counted from `from`, that is not right
 unfoldable pub firstBad : (ℕ → Bool) → ℕ → ℕ → Option ℕ
 firstBad right zero from = none
 firstBad right (suc n) from = cond (right from) (firstBad right n (from + 1)) (some from)
@@ -66,6 +66,7 @@ valueRight states form value =
     cond (among form (formFixed ∷ formRange ∷ [])) (leb value mostTerms)
     (cond (eqb form formGlob) (leb 1 value && leb value states) (eqb value 0))
 
+-- "4: shape row against the list above"
 unfoldable pub shapeRight : ℕ → Shape → Bool
 shapeRight states s =
     among (s .class) (classCommand ∷ classEnvironment ∷ [])

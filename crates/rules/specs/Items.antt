@@ -32,7 +32,7 @@ pub data Item : Type 0 where
   -- a body that is skipped, in a node of this kind
   skipped : ℕ → Item
 
--- the arms of `content`'s match
+-- the arms of `content`'s match, which is "as the source has" it. A kind that is not named is eaten alone
 abbrev pub itemOf : ℕ → Item
 itemOf kind =
     cond (eqb kind Token.LeftCurly) (group Scope.CurlyItem)
@@ -71,7 +71,7 @@ closer Scope.CurlyItem = Token.RightCurly
 closer Scope.BracketItem = Token.RightBracket
 closer Scope.ParenItem = Token.RightParen
 
--- `CommandName(..)`: 26 Generic to 39 Right
+-- `CommandName(..)`: "26 Generic, .. 39 Right"
 abbrev pub isCommandName : ℕ → Bool
 isCommandName kind = leb Token.Generic kind && leb kind Token.Right
 
@@ -88,15 +88,15 @@ classCommand = 1
 abbrev pub classEnvironment : ℕ
 classEnvironment = 2
 
--- no entry in the shape table
+-- "no entry" in the shape table
 abbrev pub noShape : Shape
 noShape = record { class = 0; form = formNone; value = 0 }
 
--- a shape where one of this class is asked for: another class counts as no entry
+-- a shape where one of this class is asked for: another class counts as no entry ("no entry, class 2, ..")
 abbrev pub ofClass : ℕ → Shape → Shape
 ofClass class s = cond (eqb (s .class) class) s noShape
 
--- "no entry, class 2, form 0, or fixed 0: name only"
+-- "no entry, class 2, form 0, or fixed 0: name only". Not range 0: "Range 0 is not form 0"
 abbrev pub nameOnly : Shape → Bool
 nameOnly s = eqb (s .form) formNone || (eqb (s .form) formFixed && eqb (s .value) 0)
 
@@ -104,7 +104,7 @@ nameOnly s = eqb (s .form) formNone || (eqb (s .form) formFixed && eqb (s .value
 abbrev pub attachableCommand : Shape → Bool
 attachableCommand s = not (among (s .form) (formLeft1 ∷ formInfixGreedy ∷ formGreedy ∷ []))
 
--- whether the item that begins with this kind may carry a script, by `content`'s answer; `s` is the command's shape, if it is one
+-- "an item whose reading says attachable": `content`'s answer, which is fixed by the kind that the item begins with and, if it is a command, its shape
 abbrev pub attachableItem : Item → ℕ → Shape → Bool
 attachableItem plain kind s = not (among kind (Token.Ampersand ∷ Token.NewLine ∷ Token.LineBreak ∷ Token.Whitespace ∷ Token.LineComment ∷ Token.Hash ∷ Token.Asterisk ∷ Token.AtSign ∷ Token.Error ∷ []))
 attachableItem error kind s = true
@@ -122,7 +122,7 @@ attachable kind s = attachableItem (itemOf kind) kind s
 
 -- ---- where greedy arguments stop
 
--- "Greedy: stops at `&`, at the scope's stops, and at NewLine only if the scope is Environment."
+-- `inside_env`
 abbrev pub isEnvironment : Scope → Bool
 isEnvironment Scope.Root = false
 isEnvironment Scope.DollarFormula = false
@@ -133,6 +133,7 @@ isEnvironment Scope.CurlyItem = false
 isEnvironment Scope.BracketItem = false
 isEnvironment Scope.ParenItem = false
 
+-- "Greedy: stops at `&`, at the scope's stops, and at NewLine only if the scope is Environment."
 unfoldable pub greedyStops : Scope → ℕ → Bool
 greedyStops scope kind = eqb kind Token.Ampersand || ((eqb kind Token.NewLine && isEnvironment scope) || stops scope kind)
 
@@ -140,19 +141,19 @@ greedyStops scope kind = eqb kind Token.Ampersand || ((eqb kind Token.NewLine &&
 
 -- how an argument is read
 pub data Piece : Type 0 where
-  -- one character of a Word
+  -- "A Word gives one argument a character"
   character : Piece
-  -- a whole group
+  -- a whole group: a curly one, and "Glob: .. `[` and `(` read whole groups."
   within : Scope → Piece
-  -- an opening brace alone
+  -- "`[` or `(` counts as a term and is eaten alone."
   brace : Piece
   -- any other item
   item : Piece
 
 pub data Choice : Type 0 where
-  -- the arguments end here
+  -- the arguments end here. "A refused character ends the word loop and the argument loop together."
   ends : Choice
-  -- the token is held
+  -- "Trivia is held"
   holds : Choice
   -- it is taken so, and the matcher goes on so
   takes : Piece → Matcher → Choice
@@ -166,7 +167,7 @@ ifMatched scope none = ends
 ifMatched scope (whole m) = takes (within scope) m
 ifMatched scope (bare m) = takes brace m
 
--- "Non-greedy: stops at `&`, `^`, `_` and the scope's stops. Trivia is held .. A Word gives one argument a character .."
+-- the arms of `match_arguments_`. "Non-greedy: stops at `&`, `^`, `_` and the scope's stops. Trivia is held; .."
 unfoldable pub choose : List ℕ → Scope → Matcher → ℕ → Choice
 choose states scope m kind =
     cond (isTrivia kind) holds

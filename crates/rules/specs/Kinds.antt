@@ -8,7 +8,7 @@ use Rattle.rules.specs.Scope.{among}
 use Rattle.rules.specs.SyntaxKind
 use Rattle.rules.specs.Token
 
--- "blanks, breaks and comments": `Token::is_trivia`
+-- trivia, as `Token::is_trivia` has it
 unfoldable pub isTrivia : ℕ → Bool
 isTrivia kind = among kind (Token.LineBreak ∷ Token.Whitespace ∷ Token.LineComment ∷ [])
 
@@ -16,7 +16,7 @@ isTrivia kind = among kind (Token.LineBreak ∷ Token.Whitespace ∷ Token.LineC
 unfoldable pub isTextComponent : ℕ → Bool
 isTextComponent kind = among kind (Token.LineBreak ∷ Token.Whitespace ∷ Token.LineComment ∷ Token.Word ∷ Token.Comma ∷ [])
 
--- `From<Token> for SyntaxKind`: the arms of its match, but for the last
+-- "the conversion from `Token`": the arms of `From<Token> for SyntaxKind`, but for the last
 abbrev pub conversions : List (ℕ × ℕ)
 conversions =
     (Token.LineBreak, SyntaxKind.TokenLineBreak)

@@ -49,7 +49,7 @@ pub data Matcher : Type 0 where
   atMost : ℕ → ℕ → Matcher
   -- accepts everything
   greedy : Matcher
-  -- stands at a state of the table
+  -- stands at a state of the table: "The glob string becomes a state number."
   glob : ℕ → Matcher
 
 -- an answer: refused, or accepted with the matcher for what comes next
@@ -80,7 +80,7 @@ isGreedy (atMost n counter) = false
 isGreedy greedy = true
 isGreedy (glob state) = false
 
--- "At most n terms: n accepted, then refused." "Glob: the state moves by t, b, p"
+-- "At most n terms: n accepted, then refused." "At n = 255 .. attempt 256: .. release stops, as the port does." "Glob: the state moves by t, b, p"
 unfoldable pub tryMatch : List ℕ → Matcher → Argument → Tried
 tryMatch states nothing a = refused
 tryMatch states (atMost n counter) term = cond (ltb counter n) (accepted (atMost n (counter + 1))) refused

@@ -30,7 +30,7 @@ pub record ListState (Mark : Type 0) : Type 0 where
 
 pub record Pos (State Mark : Type 0) : Type 0 where
   pub lexer : Cursor
-  -- held trivia are the tokens from this one up to the next to be read
+  -- "Trivia is held": the tokens from this one up to the next to be read. What it says counts only while the arguments of a command or a \begin are read
   pub held : ℕ
   pub list : ListState Mark
   pub built : State
@@ -54,7 +54,9 @@ asked test none = false
 asked test (some kind) = test kind
 
 module _ (B : Builder) where
-  -- ---- the builder's operations, at the place of the first token not wholly read
+  -- ---- the builder's operations, at the place
+
+  -- "Place: the first token not wholly read, the token count at the end."
   abbrev pub place : At B → ℕ
   place p = p .lexer .token
 
@@ -76,7 +78,7 @@ module _ (B : Builder) where
   abbrev pub finish : ℕ → B .Frame → Rule B
   finish kind f p = building p (B .finish (place p) kind f (p .built))
 
-  -- a wrap: a node begins at the mark and stays open, and inside it one is closed around what stood there
+  -- a wrap: a node begins at the mark and stays open, and inside it one is closed around what stood there. Each opening is judged by itself
   unfoldable pub wrap : ℕ → B .Mark → Rule B
   wrap kind m p =
       bind (startAt kind m p) (λ outer.

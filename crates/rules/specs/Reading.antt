@@ -1,5 +1,5 @@
 -- The routines of parser.rs that read items inside items: over any builder, for what is read. Each takes `inner`, which reads an item inside a node;
--- `contentAt` ties the knot over the nodes that may yet be opened.
+-- `contentAt` ties the knot. "These call each other in a cycle; the number of nodes that may yet be opened falls."
 use Prim.Native.Nat.{ℕ, zero, suc}
 use mathlib.Core.Bool.{Bool, true, false, cond}
 use mathlib.Core.List.{List, [], _∷_}
@@ -28,7 +28,7 @@ module _ (B : Builder) (source : Source) where
   abbrev pub lastAfter : At B → At B → At B
   lastAfter p q = withMarks B (q .list .start) (cond (attachable (kindAt (source .tokens) (place B p)) (source .shape (place B p))) (some (B .mark (p .built))) (q .list .last)) q
 
-  -- a mark where one is, else another
+  -- "from last, else start, else nothing"
   abbrev pub orElse : Option (B .Mark) → Option (B .Mark) → Option (B .Mark)
   orElse none other = other
   orElse (some m) other = some m
@@ -37,7 +37,7 @@ module _ (B : Builder) (source : Source) where
   module _ (inner : Bool → Rule B) where
     -- ---- lists and groups
 
-    -- items up to the end, or a token whose kind stops them
+    -- `item_list`'s loop: items up to the end, or a token whose kind stops them
     unfoldable pub items : (ℕ → Bool) → ℕ → Rule B
     items stop zero p = went p
     items stop (suc n) p = cond (next B source (λ kind. cond (stop kind) false true) p) (bind (inner false p) (λ q. items stop n (lastAfter p q))) (went p)
@@ -73,7 +73,7 @@ module _ (B : Builder) (source : Source) where
     piece brace p = eat B source p
     piece item p = inner false p
 
-    -- an accepted argument: what is held is dropped, and the argument has a node of its own
+    -- `arg`: "an accepted argument drops what is held", and has a node of its own
     unfoldable pub argument : Piece → Rule B
     argument what p =
         steps
@@ -85,7 +85,7 @@ module _ (B : Builder) (source : Source) where
         ∷ [])
         p
 
-    -- arguments, until the matcher or the kind of token ends them
+    -- a turn of `match_arguments_`: the arguments end, a token is held, or an argument is read and the matcher goes on
     abbrev pub chosen : (Matcher → Rule B) → Choice → Matcher → Rule B
     chosen more ends m p = went p
     chosen more holds m p = more m (holdTrivia B source p)
@@ -99,6 +99,7 @@ module _ (B : Builder) (source : Source) where
     abbrev pub choiceAt : Matcher → At B → Choice
     choiceAt m p = choiceFor (peek (source .tokens) (p .lexer)) m p
 
+    -- `match_arguments_`, not greedy; a Word gives its characters turn by turn
     unfoldable pub arguments : ℕ → Matcher → Rule B
     arguments zero m p = went p
     arguments (suc n) m p = chosen (arguments n) (choiceAt m p) m p
@@ -114,7 +115,7 @@ module _ (B : Builder) (source : Source) where
         ∷ [])
         p
 
-    -- the argument of a greedy command, all of it in one node. "Start is .. a new mark inside greedy ones." "`[` and `(` are eaten plain. Last becomes
+    -- `match_arguments` of a greedy command, all of it in one node. "Start is .. a new mark inside greedy ones." "`[` and `(` are eaten plain. Last becomes
     -- the mark before each opening brace's item, plain ones too, and each attachable item": that is what reading these as items does
     unfoldable pub greedyArgument : Rule B
     greedyArgument p =
@@ -133,6 +134,7 @@ module _ (B : Builder) (source : Source) where
     unfoldable pub commandNode : Rule B → B .Frame → Rule B
     commandNode rest parent p = steps (eat B source ∷ rest ∷ finish B SyntaxKind.ItemCmd parent ∷ []) p
 
+    -- `command`, by its shape
     unfoldable pub commandOf : Shape → Rule B
     commandOf s p =
         -- "name only, attachable":  \z   Cmd[\z]
@@ -167,6 +169,7 @@ module _ (B : Builder) (source : Source) where
         (cond (isGreedy (startMatch (s .form) (s .value))) (refused greedyEnvironment (place B p))
         (matchArguments (startMatch (s .form) (s .value)) p))
 
+    -- the \begin: its name, its arguments on the marks and stops of the list around it, and behind its node the trivia that is left
     unfoldable pub beginClause : Rule B
     beginClause p =
         steps
@@ -178,10 +181,11 @@ module _ (B : Builder) (source : Source) where
         ∷ [])
         p
 
+    -- the \end, if it is next
     unfoldable pub endClause : Rule B
     endClause p = cond (next B source (eqb Token.EndEnvironment) p) (oneIn B source SyntaxKind.ItemEnd p) (went p)
 
-    -- `environment`:  \begin{m}a\end{m}   Env[Begin[m] Text[a] End[m]]
+    -- `environment`, "as the source has" it:  \begin{m}a\end{m}   Env[Begin[m] Text[a] End[m]]
     unfoldable pub environmentItem : Rule B
     environmentItem p =
         steps
@@ -193,6 +197,7 @@ module _ (B : Builder) (source : Source) where
         ∷ [])
         p
 
+    -- the \right, if it is next
     unfoldable pub rightClause : Rule B
     rightClause p = cond (next B source (eqb Token.Right) p) (clauseLr B source p) (went p)
 
@@ -228,6 +233,7 @@ module _ (B : Builder) (source : Source) where
 
     -- ---- `content`: any item
 
+    -- what is done in each arm of its match
     unfoldable pub readItem : Bool → Item → Rule B
     readItem single plain p = eat B source p
     readItem single error p = oneIn B source SyntaxKind.TokenError p
@@ -245,10 +251,11 @@ module _ (B : Builder) (source : Source) where
     contentFor none single p = went p
     contentFor (some kind) single p = readItem single (itemOf kind) p
 
+    -- "`content` itself doesn't ask the scope."
     unfoldable pub content : Bool → Rule B
     content single p = contentFor (peek (source .tokens) (p .lexer)) single p
 
-  -- `content` inside a node below which d more may be opened: where none may, nothing is read
+  -- `content` inside a node below which d more may be opened: where none may, nothing is read. A builder that counts open nodes refuses before that
   unfoldable pub contentAt : ℕ → Bool → Rule B
   contentAt zero = λ single p. refused tooManyOpen (place B p)
   contentAt (suc d) = content (contentAt d)

@@ -27,7 +27,7 @@ module _ (B : Builder) (source : Source) where
 
   -- ---- tokens
 
-  -- `eat_as`: what is left of the next token becomes a leaf of this kind
+  -- `eat_as`: what is left of the next token becomes a leaf of this kind. "A token is read once its last leaf is written"
   unfoldable pub eatAs : ℕ → Rule B
   eatAs kind p =
       bind (leaf B (record { token = place B p; kind = kind; start = restStart (source .tokens) (p .lexer); size = restLength (source .tokens) (p .lexer) }) p)
@@ -37,6 +37,7 @@ module _ (B : Builder) (source : Source) where
   unfoldable pub eat : Rule B
   eat p = eatAs (leafKind (kindAt (source .tokens) (place B p))) p
 
+  -- `eat_if`: a token of this kind is eaten, if it is next
   unfoldable pub eatIf : ℕ → Rule B
   eatIf kind p = cond (next (eqb kind) p) (eat p) (went p)
 
@@ -45,10 +46,11 @@ module _ (B : Builder) (source : Source) where
   eatWhile test zero p = went p
   eatWhile test (suc n) p = cond (next test p) (bind (eat p) (λ q. eatWhile test n q)) (went p)
 
+  -- `trivia`: blanks before a script or a delimiter become leaves
   unfoldable pub trivia : Rule B
   trivia p = eatWhile isTrivia (turns p) p
 
-  -- `single_char`: the first character of what is left of the next token becomes a leaf, and is passed
+  -- `single_char`: the first character of what is left of the next token becomes a leaf, and is passed; "what is left of the word is handed on"
   unfoldable pub singleChar : Rule B
   singleChar p =
       let size = charLength (peekText (source .text) (source .tokens) (p .lexer)) in
@@ -61,7 +63,7 @@ module _ (B : Builder) (source : Source) where
 
   -- ---- held trivia
 
-  -- `hold_trivia`: the token counts as read
+  -- `hold_trivia`: "Trivia is held", and read "when it is held"
   abbrev pub holdTrivia : At B → At B
   holdTrivia p = withLexer B (eaten (p .lexer)) p
 
@@ -70,7 +72,7 @@ module _ (B : Builder) (source : Source) where
   dropFrom zero i b = b
   dropFrom (suc n) i b = dropFrom n (i + 1) (B .drop i reasonTrivia b)
 
-  -- `ignore_holding_trivia`: "an accepted argument drops what is held"
+  -- `ignore_holding_trivia`: "an accepted argument drops what is held", in the order of holding
   unfoldable pub ignoreHoldingTrivia : Rule B
   ignoreHoldingTrivia p = went (holdingNone B (withBuilt B p (dropFrom (place B p - p .held) (p .held) (p .built))))
 
@@ -87,11 +89,11 @@ module _ (B : Builder) (source : Source) where
 
   -- ---- items without an item inside
 
-  -- `text`: `a, b` is one text
+  -- `text`, "as the source has" it: `a, b` is one text
   unfoldable pub text : Rule B
   text p = steps (start B SyntaxKind.ItemText ∷ eat ∷ (λ q. eatWhile isTextComponent (turns q) q) ∷ finish B SyntaxKind.ItemText (B .frame (p .built)) ∷ []) p
 
-  -- what `clause_lr` takes as the delimiter
+  -- what `clause_lr` takes as the delimiter: of a Word its first character, no command but a Generic one, and no `$`
   abbrev pub delimiterOf : Option ℕ → Rule B
   delimiterOf none p = went p
   delimiterOf (some kind) p =
@@ -103,15 +105,15 @@ module _ (B : Builder) (source : Source) where
   unfoldable pub delimiter : Rule B
   delimiter p = delimiterOf (peek (source .tokens) (p .lexer)) p
 
-  -- `clause_lr`: `\left` or `\right`, and its delimiter
+  -- `clause_lr`, "as the source has" it: `\left` or `\right`, and its delimiter
   unfoldable pub clauseLr : Rule B
   clauseLr p = steps (start B SyntaxKind.ClauseLR ∷ eat ∷ trivia ∷ delimiter ∷ finish B SyntaxKind.ClauseLR (B .frame (p .built)) ∷ []) p
 
-  -- the next token is dropped
+  -- `drop`: the next token is dropped, and so read
   unfoldable pub dropNext : ℕ → Rule B
   dropNext reason p = went (withLexer B (eaten (p .lexer)) (withBuilt B p (B .drop (place B p) reason (p .built))))
 
-  -- `eat_body_of_ifs`: up to the \fi of nesting 0, which is dropped; any \if nests
+  -- `eat_body_of_ifs`, "as the source has" it: up to the \fi of nesting 0, which is dropped; any \if nests
   unfoldable pub eatBodyOfIfs : ℕ → ℕ → Rule B
   eatBodyOfIfs zero nested p = went p
   eatBodyOfIfs (suc n) nested p =
@@ -120,7 +122,7 @@ module _ (B : Builder) (source : Source) where
       (cond (next isIf p) (bind (eat p) (λ q. eatBodyOfIfs n (nested + 1) q))
       (cond (next (λ kind. true) p) (bind (eat p) (λ q. eatBodyOfIfs n nested q)) (went p)))
 
-  -- `block_comment` and `typst_code`
+  -- `block_comment` and `typst_code`:  \iffalse a\fi   BlockComment[a], with the two commands dropped
   unfoldable pub skippedBody : ℕ → Rule B
   skippedBody kind p = steps (start B kind ∷ dropNext reasonOpener ∷ (λ q. eatBodyOfIfs (turns q) 0 q) ∷ finish B kind (B .frame (p .built)) ∷ []) p
 

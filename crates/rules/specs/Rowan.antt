@@ -26,7 +26,7 @@ pub record Green : Type 0 where
   pub leaves : ℕ
   pub dropped : List ℕ
 
--- rowan's other assertion, a mark past the last child. It is no number of 01's, and never met
+-- "rowan's other assertion, a mark past the last child, is expected never to be met": no number of 01's
 abbrev pub markPastLast : ℕ
 markPastLast = 0
 
