@@ -1,8 +1,8 @@
 -- The formulas that 01 marks to be proved, as one table, and one theorem over it that antt computes.
-use Prim.Native.Nat.{ℕ, _*_}
+use Prim.Native.Nat.{ℕ, _-_, _/_}
 use mathlib.Core.Path.{_≡_, refl}
-use mathlib.Core.List.{List, [], _∷_, map}
-use lib.ListN.{length, take, replicate}
+use mathlib.Core.List.{List, [], _∷_, _++_, map}
+use lib.ListN.{length, replicate}
 use Rattle.rules.specs.Checks.{Tables}
 use Rattle.rules.specs.Limits
 use Rattle.rules.specs.Run.{Answer, accepted, refusedAt, Ran, run}
@@ -36,16 +36,16 @@ pub record Case : Type 0 where
   pub room : ℕ
   pub expected : Expected
 
--- an outcome: the written rows and dropped rows, or the refusal and both buffers whole
+-- an outcome: both row counts or the refusal, and both buffers whole
 pub data Outcome : Type 0 where
-  wrote : List ℕ → List ℕ → Outcome
+  wrote : ℕ → ℕ → List ℕ → List ℕ → Outcome
   refused : ℕ → ℕ → List ℕ → List ℕ → Outcome
 
 abbrev pub outcomeOf : Answer → List ℕ → List ℕ → Outcome
-outcomeOf (accepted rows dropped) tree notes = wrote (take (rows * Limits.treeWidth) tree) (take (dropped * Limits.droppedWidth) notes)
+outcomeOf (accepted rows dropped) tree notes = wrote rows dropped tree notes
 outcomeOf (refusedAt number place) tree notes = refused number place tree notes
 
--- the buffers hold a 7 everywhere before the run, so that what a refusal leaves can be told from what stood there
+-- the buffers hold a 7 everywhere before the run, so that what is left can be told from what stood there
 abbrev pub droppedRoom : Case → ℕ
 droppedRoom c = length (c .tokens)
 
@@ -55,8 +55,13 @@ ran c = run (record { text = c .text; tokens = c .tokens; shapes = c .shapes; st
 abbrev pub found : Case → Outcome
 found c = outcomeOf (ran c .answer) (ran c .tree) (ran c .dropped)
 
+-- "later elements keep what they held"
+abbrev pub filled : List ℕ → ℕ → List ℕ
+filled rows size = rows ++ replicate (size - length rows) 7
+
 abbrev pub wanted : Case → Expected → Outcome
-wanted c (gives tree dropped) = wrote (layout tree) dropped
+wanted c (gives tree dropped) =
+    wrote (length (layout tree) / Limits.treeWidth) (length dropped / Limits.droppedWidth) (filled (layout tree) (c .room)) (filled dropped (droppedRoom c))
 wanted c (refuses number place) = refused number place (replicate (c .room) 0) (replicate (droppedRoom c) 0)
 
 abbrev pub cases : List Case
