@@ -210,7 +210,7 @@ cases =
       room = 1000;
       expected = gives (nodeOf SyntaxKind.ScopeRoot ((nodeOf SyntaxKind.ItemCmd (leaf SyntaxKind.ClauseCommandName 0 2 ∷ (nodeOf SyntaxKind.ClauseArgument (leaf SyntaxKind.TokenLBracket 2 1 ∷ [])) ∷ [])) ∷ (nodeOf SyntaxKind.ItemText (leaf SyntaxKind.TokenWord 3 1 ∷ [])) ∷ leaf SyntaxKind.TokenRBracket 4 1 ∷ (nodeOf SyntaxKind.ItemCurly (leaf SyntaxKind.TokenLBrace 5 1 ∷ (nodeOf SyntaxKind.ItemText (leaf SyntaxKind.TokenWord 6 1 ∷ [])) ∷ leaf SyntaxKind.TokenRBrace 7 1 ∷ [])) ∷ [])) ([]);
     }
-    -- 01's formulas end here. The rest are answers of the Rust that tell a slip which those leave untold
+    -- 01's formulas end here. The rest are answers of the Rust, with places and room as oracle/ counts them, that tell slips which those leave untold
     -- `a_\r^c`, `\r` range 0: "Treating range 0 as no shape: after a script, last differs." The second Attach has no Arg
     ∷ record {
       text = 97 ∷ 95 ∷ 92 ∷ 114 ∷ 94 ∷ 99 ∷ [];
