@@ -1,4 +1,9 @@
 // What the next argument of a command or a \begin is, and where greedy arguments stop.
+ghost use mathlib.Core.Path.{_≡_};
+ghost use Rattle.rules.specs.Items.{choose, greedyStops, ifMatched, ifTried, isEnvironment};
+ghost use Rattle.arg_match.specs.Answers.{matchedOf, matcherOf, triedOf};
+ghost use Rattle.syntax.specs.ParseScope.{scopeOf};
+ghost use Rattle.items.specs.Items.{choiceFor, pieceFor};
 use arg_match::ArgMatcher;
 use arg_match::Argument;
 use arg_match::Matched;
@@ -27,33 +32,45 @@ pub enum Choice {
     Takes(Piece, ArgMatcher),
 }
 
-fn is_environment(scope: ParseScope) -> bool {
+fn is_environment(scope: ParseScope) -> bool
+    ensures { λ r. ⌜ r ≡ isEnvironment (scopeOf scope) ⌝ }
+{
     match scope {
+        ParseScope::Root => false,
+        ParseScope::DollarFormula => false,
+        ParseScope::CmdFormula => false,
         ParseScope::Environment => true,
-        _ => false,
+        ParseScope::LR => false,
+        ParseScope::CurlyItem => false,
+        ParseScope::BracketItem => false,
+        ParseScope::ParenItem => false,
     }
 }
 
-pub fn greedy_stops(scope: ParseScope, kind: u32) -> bool {
+pub fn greedy_stops(scope: ParseScope, kind: u32) -> bool
+    ensures { λ r. ⌜ r ≡ greedyStops (scopeOf scope) kind ⌝ }
+{
     if kind == Token::AMPERSAND {
         return true;
     }
-    if kind == Token::NEW_LINE {
-        if is_environment(scope) {
-            return true;
-        }
+    if kind == Token::NEW_LINE && is_environment(scope) {
+        return true;
     }
     scope.stop_by_scope(kind)
 }
 
-fn if_tried(piece: Piece, tried: Tried) -> Choice {
+fn if_tried(piece: Piece, tried: Tried) -> Choice
+    ensures { λ r. ⌜ choiceFor r ≡ ifTried (pieceFor piece) (triedOf tried) ⌝ }
+{
     match tried {
         Tried::Refused => Choice::Ends,
         Tried::Accepted(matcher) => Choice::Takes(piece, matcher),
     }
 }
 
-fn if_matched(scope: ParseScope, matched: Matched) -> Choice {
+fn if_matched(scope: ParseScope, matched: Matched) -> Choice
+    ensures { λ r. ⌜ choiceFor r ≡ ifMatched (scopeOf scope) (matchedOf matched) ⌝ }
+{
     match matched {
         Matched::Refused => Choice::Ends,
         Matched::Whole(matcher) => Choice::Takes(Piece::Within(scope), matcher),
@@ -61,12 +78,15 @@ fn if_matched(scope: ParseScope, matched: Matched) -> Choice {
     }
 }
 
-pub fn choose(states: &[u32], scope: ParseScope, matcher: ArgMatcher, kind: u32) -> Choice {
+pub fn choose(states: &[u32], scope: ParseScope, matcher: ArgMatcher, kind: u32) -> Choice
+    ensures { λ r. ⌜ choiceFor r ≡ choose (now (states .entry)) (scopeOf scope) (matcherOf matcher) kind ⌝ }
+{
     if Token::is_trivia(kind) {
         return Choice::Holds;
     }
     match kind {
-        Token::AMPERSAND | Token::CARET | Token::UNDERSCORE => Choice::Ends,
+        Token::AMPERSAND => Choice::Ends,
+        Token::CARET | Token::UNDERSCORE => Choice::Ends,
         Token::WORD => if_tried(Piece::Character, matcher.try_match(states, Argument::Term)),
         Token::LEFT_CURLY => if_matched(
             ParseScope::CurlyItem,
