@@ -1,4 +1,5 @@
--- What the `_` of a `match` on a number tells: the number is no arm's key, so that a test of it against a key fails. Assumes nothing.
+-- What the `_` of a `match` on a number tells: the number is no arm's key, so that a test of it against a key fails. (Numbers next to each
+-- other in one arm would be a range and no keys, so such an arm is written as two.) Assumes nothing.
 use Prim.Native.Nat.{ℕ}
 use borrow.Author.Tests.{eqb-true}
 use lib.Dec.{T, eqb}

@@ -18,29 +18,6 @@ returns : tie.Need-returns
 unfolding choose
 returns c = rw (← c .before .is-trivia .ensures, c .if1 .taken)
 
--- the rule at a number that is no arm's key
-otherwise : (c : tie.After-stop-by-scope) →
-    let a = c .before .before .before .before .before .args in
-    choose (a .states .now) (scopeOf (a .scope)) (matcherOf (a .matcher)) (a .kind)
-    ≡ cond (c .stop-by-scope .result) ends (ifTried item (tryMatch (a .states .now) (matcherOf (a .matcher)) term))
-unfolding choose
-otherwise c =
-    rw (← c .before .before .before .is-trivia .ensures, c .before .before .if1 .left, ← c .stop-by-scope .ensures)
-    (simp
-    (no-key
-    (c .before .before .before .before .before .args .kind)
-    ((Token.Ampersand ∷ [])
-    ∷ (Token.Caret ∷ Token.Underscore ∷ [])
-    ∷ (Token.Word ∷ [])
-    ∷ (Token.LeftCurly ∷ [])
-    ∷ (Token.LeftBracket ∷ [])
-    ∷ (Token.LeftParen ∷ [])
-    ∷ [])
-    (c .before .match .rest)))
-
-returns-2 : tie.Need-returns-2
-returns-2 c = rw (otherwise (c .before), c .if2 .taken)
-
 returns-3 : tie.Need-returns-3
 unfolding choose isTrivia
 returns-3 c = rw (c .match .keys1)
@@ -64,6 +41,29 @@ returns-7 c = c .if-matched2 .ensures ∙ rw (c .before .match-as-term2 .ensures
 returns-8 : tie.Need-returns-8
 unfolding choose isTrivia
 returns-8 c = c .if-matched3 .ensures ∙ rw (c .before .match-as-term3 .ensures, c .before .before .match .keys6)
+
+-- the rule at a number that is no arm's key
+otherwise : (c : tie.After-stop-by-scope) →
+    let a = c .before .before .before .before .before .args in
+    choose (a .states .now) (scopeOf (a .scope)) (matcherOf (a .matcher)) (a .kind)
+    ≡ cond (c .stop-by-scope .result) ends (ifTried item (tryMatch (a .states .now) (matcherOf (a .matcher)) term))
+unfolding choose
+otherwise c =
+    rw (← c .before .before .before .is-trivia .ensures, c .before .before .if1 .left, ← c .stop-by-scope .ensures)
+    (simp
+    (no-key
+    (c .before .before .before .before .before .args .kind)
+    ((Token.Ampersand ∷ [])
+    ∷ (Token.Caret ∷ Token.Underscore ∷ [])
+    ∷ (Token.Word ∷ [])
+    ∷ (Token.LeftCurly ∷ [])
+    ∷ (Token.LeftBracket ∷ [])
+    ∷ (Token.LeftParen ∷ [])
+    ∷ [])
+    (c .before .match .rest)))
+
+returns-2 : tie.Need-returns-2
+returns-2 c = rw (otherwise (c .before), c .if2 .taken)
 
 returns-9 : tie.Need-returns-9
 returns-9 c = c .if-tried2 .ensures ∙ rw (c .before .try-match2 .ensures, otherwise (c .before .before .before), c .before .before .if2 .left)
