@@ -1,5 +1,5 @@
 -- `item_of` meets its contract: at each key the rule computes, and a number that is no key fails each of its tests. Assumes nothing.
-use mathlib.Core.List.{List, [], _∷_}
+use mathlib.Core.List.{[], _∷_}
 use mathlib.Core.Logic.{⊎-elim}
 use Rattle.rules.specs.Token
 use Rattle.items.proofs.Arms.{no-key}
