@@ -1,0 +1,110 @@
+// What the next argument of a command or a \begin is, and where greedy arguments stop.
+ghost use mathlib.Core.Path.{_≡_};
+ghost use Rattle.rules.specs.Items.{choose, greedyStops, ifMatched, ifTried, isEnvironment};
+ghost use Rattle.arg_match.specs.Answers.{matchedOf, matcherOf, triedOf};
+ghost use Rattle.syntax.specs.ParseScope.{scopeOf};
+ghost use Rattle.items.specs.Items.{choiceFor, pieceFor};
+use arg_match::ArgMatcher;
+use arg_match::Argument;
+use arg_match::Matched;
+use arg_match::Tried;
+use syntax::ParseScope;
+use syntax::Token;
+
+// How an argument is read.
+pub enum Piece {
+    // One character of a Word.
+    Character,
+    // A whole group.
+    Within(ParseScope),
+    // An opening brace alone.
+    Brace,
+    // Any other item.
+    Item,
+}
+
+pub enum Choice {
+    // The arguments end here.
+    Ends,
+    // The token is held.
+    Holds,
+    // It is taken so, and the matcher goes on so.
+    Takes(Piece, ArgMatcher),
+}
+
+fn is_environment(scope: ParseScope) -> bool
+    ensures { λ r. ⌜ r ≡ isEnvironment (scopeOf scope) ⌝ }
+{
+    match scope {
+        ParseScope::Root => false,
+        ParseScope::DollarFormula => false,
+        ParseScope::CmdFormula => false,
+        ParseScope::Environment => true,
+        ParseScope::LR => false,
+        ParseScope::CurlyItem => false,
+        ParseScope::BracketItem => false,
+        ParseScope::ParenItem => false,
+    }
+}
+
+pub fn greedy_stops(scope: ParseScope, kind: u32) -> bool
+    ensures { λ r. ⌜ r ≡ greedyStops (scopeOf scope) kind ⌝ }
+{
+    if kind == Token::AMPERSAND {
+        return true;
+    }
+    if kind == Token::NEW_LINE && is_environment(scope) {
+        return true;
+    }
+    scope.stop_by_scope(kind)
+}
+
+fn if_tried(piece: Piece, tried: Tried) -> Choice
+    ensures { λ r. ⌜ choiceFor r ≡ ifTried (pieceFor piece) (triedOf tried) ⌝ }
+{
+    match tried {
+        Tried::Refused => Choice::Ends,
+        Tried::Accepted(matcher) => Choice::Takes(piece, matcher),
+    }
+}
+
+fn if_matched(scope: ParseScope, matched: Matched) -> Choice
+    ensures { λ r. ⌜ choiceFor r ≡ ifMatched (scopeOf scope) (matchedOf matched) ⌝ }
+{
+    match matched {
+        Matched::Refused => Choice::Ends,
+        Matched::Whole(matcher) => Choice::Takes(Piece::Within(scope), matcher),
+        Matched::Bare(matcher) => Choice::Takes(Piece::Brace, matcher),
+    }
+}
+
+pub fn choose(states: &[u32], scope: ParseScope, matcher: ArgMatcher, kind: u32) -> Choice
+    ensures { λ r. ⌜ choiceFor r ≡ choose (now (states .entry)) (scopeOf scope) (matcherOf matcher) kind ⌝ }
+{
+    if Token::is_trivia(kind) {
+        return Choice::Holds;
+    }
+    match kind {
+        Token::AMPERSAND => Choice::Ends,
+        Token::CARET | Token::UNDERSCORE => Choice::Ends,
+        Token::WORD => if_tried(Piece::Character, matcher.try_match(states, Argument::Term)),
+        Token::LEFT_CURLY => if_matched(
+            ParseScope::CurlyItem,
+            matcher.match_as_term(states, Argument::Term),
+        ),
+        Token::LEFT_BRACKET => if_matched(
+            ParseScope::BracketItem,
+            matcher.match_as_term(states, Argument::Bracket),
+        ),
+        Token::LEFT_PAREN => if_matched(
+            ParseScope::ParenItem,
+            matcher.match_as_term(states, Argument::Paren),
+        ),
+        _ => {
+            if scope.stop_by_scope(kind) {
+                return Choice::Ends;
+            }
+            if_tried(Piece::Item, matcher.try_match(states, Argument::Term))
+        }
+    }
+}
