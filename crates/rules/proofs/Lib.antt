@@ -1,4 +1,7 @@
 -- Theorems about the rules alone, and the laws by which other crates use their definitions.
 pub mod Characters
 pub mod Flat
+pub mod Related
+pub mod Sim
+pub mod Simulation
 pub mod Table

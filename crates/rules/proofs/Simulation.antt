@@ -1,0 +1,178 @@
+-- Runs of related builders are related: one law a routine, and the theorem over `parse`. Positions on both sides stand at the same token, hold the same
+-- tokens, and keep marks at the same places. Assumes nothing.
+use Prim.Native.Nat.{ℕ, zero, suc, _+_, _-_}
+use mathlib.Core.Path.{_≡_, refl, _∙_}
+use mathlib.Core.Bool.{Bool, true, false, cond}
+use mathlib.Core.List.{List, [], _∷_, _++_}
+use mathlib.Core.Option.{Option, none, some}
+use lib.Dec.{eqb}
+use Rattle.rules.specs.Builder.{Builder, Leaf}
+use Rattle.rules.specs.Characters.{charLength}
+use Rattle.rules.specs.Cursor.{Cursor, peek, eaten, consumed, left, restStart, restLength, peekText}
+use Rattle.rules.specs.Items.{isCommandName, isIf}
+use Rattle.rules.specs.Flat.{reasonTrivia, reasonOpener, reasonCloser}
+use Rattle.rules.specs.Kinds.{leafKind, isTrivia, isTextComponent}
+use Rattle.rules.specs.Outcome.{Out, went, refused, bind, greedyEnvironment, tooManyOpen}
+use Rattle.rules.specs.Position.{Source, At, asked, building, withLexer, withList, holdingNone, leaf, start, startAt, finish, wrap}
+use Rattle.rules.specs.Routines.{eatAs, eat, eatIf, eatWhile, turns, trivia, singleChar, oneIn, dropFrom, ignoreHoldingTrivia, leavesFrom, extractHoldingTrivia, text, delimiterOf, delimiter, clauseLr, dropNext, eatBodyOfIfs, skippedBody, startCommandAt}
+use Rattle.rules.specs.Scope.{Scope}
+use Rattle.rules.specs.SyntaxKind
+use Rattle.rules.specs.Tables.{kindAt, startAt as textAt, lengthAt}
+use Rattle.rules.specs.Token
+use Rattle.rules.proofs.Related.{OutRel, went~, refused~, skipped~, Keeps, Steps, done~, _⨾_, From, _▸_, bind~, weaker~, cond~, steps~, from~}
+use Rattle.rules.proofs.Sim.{Sub, nil, keep, omit, sub-nil, sub-refl, sub-behind, sub-trans, lefts, rights, listed, Marks, leftList, rightList, marksOf, Among, Node, World, node, innermost, Sim}
+
+-- positions over related states, with marks of which P holds
+pub data Near {A B : Builder} {Skip May : ℕ → Type 0} (Z : Sim A B Skip May) (w : World A B) (P : Marks (A .Mark) (B .Mark) → Type 0) : At A → At B → Type 0 where
+  near : (c : Cursor) (h : ℕ) (m : Marks (A .Mark) (B .Mark)) {a : A .State} {b : B .State}
+      → P m
+      → Z .R w a b
+      → Near Z w P (record { lexer = c; held = h; list = leftList m; built = a }) (record { lexer = c; held = h; list = rightList m; built = b })
+
+module _ {A B : Builder} {Skip May : ℕ → Type 0} (Z : Sim A B Skip May) where
+  abbrev Marked : Type 0
+  Marked = List (A .Mark × B .Mark)
+
+  abbrev Holds : Type 1
+  Holds = Marks (A .Mark) (B .Mark) → Type 0
+
+  abbrev O : {X Y : Type 0} → (X → Y → Type 0) → Out X → Out Y → Type 0
+  O Q = OutRel Skip May Q
+
+  -- ---- the builder's operations, at positions
+
+  op~ : {v : World A B} {P : Holds} {o : Out (A .State)} {u : Out (B .State)} (c : Cursor) (h : ℕ) (m : Marks (A .Mark) (B .Mark)) → P m → O (Z .R v) o u
+      → O (Near Z v P) (bind o (λ a. went (record { lexer = c; held = h; list = leftList m; built = a }))) (bind u (λ b. went (record { lexer = c; held = h; list = rightList m; built = b })))
+  op~ c h m holds o = bind~ o (λ x y r. went~ (near c h m holds r))
+
+  start~ : (kind : ℕ) {w : World A B} {P : Holds} {p : At A} {q : At B} → Near Z w P p q → O (Near Z (node kind (innermost w) (A .frame (p .built)) (B .frame (q .built)) ∷ w) P) (start A kind p) (start B kind q)
+  start~ kind (near c h m holds r) = op~ c h m holds (Z .starts (c .token) kind r)
+
+  startAt~ : (kind : ℕ) {k : ℕ} {x : A .Mark × B .Mark} {older : Marked} {f : A .Frame} {g : B .Frame} {w : World A B} {P : Holds} {p : At A} {q : At B} → Near Z (node k (x ∷ older) f g ∷ w) P p q
+      → O (Near Z (node kind (x ∷ older) (A .frame (p .built)) (B .frame (q .built)) ∷ node k (x ∷ older) f g ∷ w) P) (startAt A kind (x .0) p) (startAt B kind (x .1) q)
+  startAt~ kind (near c h m holds r) = op~ c h m holds (Z .startAts (c .token) kind r)
+
+  finish~ : {n : Node A B} {w : World A B} {P : Holds} → Keeps Skip May (Near Z (n ∷ w) P) (Near Z w P) (finish A (n .kind) (n .left)) (finish B (n .kind) (n .right))
+  finish~ {n} _ _ (near c h m holds r) = op~ c h m holds (Z .finishes (c .token) n r)
+
+  -- a wrap, at the newest mark
+  wrap~ : (kind : ℕ) {k : ℕ} {x : A .Mark × B .Mark} {older : Marked} {f : A .Frame} {g : B .Frame} {w : World A B} {P : Holds} {p : At A} {q : At B} → Near Z (node k (x ∷ older) f g ∷ w) P p q
+      → O (Near Z (node kind (x ∷ older) (A .frame (p .built)) (B .frame (q .built)) ∷ node k (x ∷ older) f g ∷ w) P) (wrap A kind (x .0) p) (wrap B kind (x .1) q)
+  unfolding wrap
+  wrap~ kind h = bind~ (startAt~ kind h) (λ p₁ q₁ h₁. bind~ (startAt~ SyntaxKind.ClauseArgument h₁) finish~)
+
+  -- the reader is moved
+  moved~ : (to : Cursor → Cursor) {w : World A B} {P : Holds} → Keeps Skip May (Near Z w P) (Near Z w P) (λ p. went (withLexer A (to (p .lexer)) p)) (λ q. went (withLexer B (to (q .lexer)) q))
+  moved~ to _ _ (near c h m holds r) = went~ (near (to c) h m holds r)
+
+  forget~ : {k : ℕ} {less live : Marked} {f : A .Frame} {g : B .Frame} {w : World A B} {P : Holds} {p : At A} {q : At B} → Sub less live → Near Z (node k live f g ∷ w) P p q → Near Z (node k less f g ∷ w) P p q
+  forget~ s (near c h m holds r) = near c h m holds (Z .forgets s r)
+
+  -- ---- routines without an item inside
+
+  -- whatever is open and whatever marks are kept, a routine leaves it so
+  abbrev Quiet : World A B → Holds → (At A → Out (At A)) → (At B → Out (At B)) → Type 0
+  Quiet w P f g = Keeps Skip May (Near Z w P) (Near Z w P) f g
+
+  module _ (source : Source) where
+    -- whether a next token is there whose kind passes a test
+    abbrev sees : (ℕ → Bool) → Cursor → Bool
+    sees test c = asked test (peek (source .tokens) c)
+
+    leaf~ : {w : World A B} {P : Holds} (l : Leaf) → Quiet w P (leaf A l) (leaf B l)
+    leaf~ l _ _ (near c h m holds r) = op~ c h m holds (Z .leafs (c .token) l r)
+
+    eatAs~ : {w : World A B} {P : Holds} (kind : ℕ) → Quiet w P (eatAs A source kind) (eatAs B source kind)
+    unfolding eatAs
+    eatAs~ kind _ _ (near c h m holds r) = bind~ (leaf~ _ _ _ (near c h m holds r)) (moved~ eaten)
+
+    eat~ : {w : World A B} {P : Holds} → Quiet w P (eat A source) (eat B source)
+    unfolding eat
+    eat~ _ _ (near c h m holds r) = eatAs~ _ _ _ (near c h m holds r)
+
+    eatIf~ : {w : World A B} {P : Holds} (kind : ℕ) → Quiet w P (eatIf A source kind) (eatIf B source kind)
+    unfolding eatIf
+    eatIf~ kind _ _ (near c h m holds r) = cond~ (sees (eqb kind) c) (λ _. eat~ _ _ (near c h m holds r)) (λ _. went~ (near c h m holds r))
+
+    eatWhile~ : {w : World A B} {P : Holds} (test : ℕ → Bool) (turns : ℕ) → Quiet w P (eatWhile A source test turns) (eatWhile B source test turns)
+    unfolding eatWhile
+    eatWhile~ test zero _ _ h = went~ h
+    eatWhile~ test (suc n) _ _ (near c h m holds r) = cond~ (sees test c) (λ _. bind~ (eat~ _ _ (near c h m holds r)) (eatWhile~ test n)) (λ _. went~ (near c h m holds r))
+
+    eatAll~ : {w : World A B} {P : Holds} (test : ℕ → Bool) → Quiet w P (λ p. eatWhile A source test (turns A source p) p) (λ q. eatWhile B source test (turns B source q) q)
+    eatAll~ test _ _ (near c h m holds r) = eatWhile~ test _ _ _ (near c h m holds r)
+
+    trivia~ : {w : World A B} {P : Holds} → Quiet w P (trivia A source) (trivia B source)
+    unfolding trivia
+    trivia~ = eatAll~ isTrivia
+
+    singleChar~ : {w : World A B} {P : Holds} → Quiet w P (singleChar A source) (singleChar B source)
+    unfolding singleChar
+    singleChar~ _ _ (near c h m holds r) = bind~ (leaf~ _ _ _ (near c h m holds r)) (moved~ (consumed (source .tokens) _))
+
+    oneIn~ : (kind : ℕ) {w : World A B} {P : Holds} → Quiet w P (oneIn A source kind) (oneIn B source kind)
+    unfolding oneIn
+    oneIn~ kind _ _ h = from~ (start~ kind h ▸ eat~ ⨾ finish~ ⨾ done~)
+
+    -- ---- held trivia
+
+    dropFrom~ : (n i : ℕ) {w : World A B} {a : A .State} {b : B .State} → Z .R w a b → Z .R w (dropFrom A source n i a) (dropFrom B source n i b)
+    unfolding dropFrom
+    dropFrom~ zero i r = r
+    dropFrom~ (suc n) i r = dropFrom~ n (i + 1) (Z .drops i reasonTrivia r)
+
+    leavesFrom~ : (n i : ℕ) {w : World A B} {P : Holds} → Quiet w P (leavesFrom A source n i) (leavesFrom B source n i)
+    unfolding leavesFrom
+    leavesFrom~ zero i _ _ h = went~ h
+    leavesFrom~ (suc n) i _ _ h = bind~ (leaf~ _ _ _ h) (leavesFrom~ n (i + 1))
+
+    -- nothing is held
+    heldNone~ : {w : World A B} {P : Holds} → Quiet w P (λ p. went (holdingNone A p)) (λ q. went (holdingNone B q))
+    heldNone~ _ _ (near c h m holds r) = went~ (near c (c .token) m holds r)
+
+    extract~ : {w : World A B} {P : Holds} → Quiet w P (extractHoldingTrivia A source) (extractHoldingTrivia B source)
+    unfolding extractHoldingTrivia
+    extract~ _ _ (near c h m holds r) = bind~ (leavesFrom~ (c .token - h) h _ _ (near c h m holds r)) heldNone~
+
+    -- ---- items without an item inside
+
+    text~ : {w : World A B} {P : Holds} → Quiet w P (text A source) (text B source)
+    unfolding text
+    text~ _ _ h = from~ (start~ SyntaxKind.ItemText h ▸ eat~ ⨾ eatAll~ isTextComponent ⨾ finish~ ⨾ done~)
+
+    delimiterOf~ : (o : Option ℕ) {w : World A B} {P : Holds} → Quiet w P (delimiterOf A source o) (delimiterOf B source o)
+    delimiterOf~ none _ _ h = went~ h
+    delimiterOf~ (some kind) p q h =
+        cond~ (eqb kind Token.Generic) (λ _. eatAs~ SyntaxKind.TokenCommandSym p q h)
+        (λ _. cond~ (isCommandName kind) (λ _. went~ h)
+        (λ _. cond~ (eqb kind Token.Dollar) (λ _. went~ h)
+        (λ _. cond~ (eqb kind Token.Word) (λ _. singleChar~ p q h) (λ _. eat~ p q h))))
+
+    delimiter~ : {w : World A B} {P : Holds} → Quiet w P (delimiter A source) (delimiter B source)
+    unfolding delimiter
+    delimiter~ _ _ (near c h m holds r) = delimiterOf~ (peek (source .tokens) c) _ _ (near c h m holds r)
+
+    clauseLr~ : {w : World A B} {P : Holds} → Quiet w P (clauseLr A source) (clauseLr B source)
+    unfolding clauseLr
+    clauseLr~ _ _ h = from~ (start~ SyntaxKind.ClauseLR h ▸ eat~ ⨾ trivia~ ⨾ delimiter~ ⨾ finish~ ⨾ done~)
+
+    dropNext~ : (reason : ℕ) {w : World A B} {P : Holds} → Quiet w P (dropNext A source reason) (dropNext B source reason)
+    unfolding dropNext
+    dropNext~ reason _ _ (near c h m holds r) = went~ (near (eaten c) h m holds (Z .drops (c .token) reason r))
+
+    eatBodyOfIfs~ : (n nested : ℕ) {w : World A B} {P : Holds} → Quiet w P (eatBodyOfIfs A source n nested) (eatBodyOfIfs B source n nested)
+    unfolding eatBodyOfIfs
+    eatBodyOfIfs~ zero nested _ _ h = went~ h
+    eatBodyOfIfs~ (suc n) nested _ _ (near c h m holds r) =
+        let here = near c h m holds r in
+        cond~ (sees (eqb Token.EndIf) c)
+        (λ _. cond~ (eqb nested 0) (λ _. dropNext~ reasonCloser _ _ here) (λ _. bind~ (eat~ _ _ here) (eatBodyOfIfs~ n (nested - 1))))
+        (λ _. cond~ (sees isIf c) (λ _. bind~ (eat~ _ _ here) (eatBodyOfIfs~ n (nested + 1)))
+        (λ _. cond~ (sees (λ kind. true) c) (λ _. bind~ (eat~ _ _ here) (eatBodyOfIfs~ n nested)) (λ _. went~ here)))
+
+    body~ : {w : World A B} {P : Holds} → Quiet w P (λ p. eatBodyOfIfs A source (turns A source p) 0 p) (λ q. eatBodyOfIfs B source (turns B source q) 0 q)
+    body~ _ _ (near c h m holds r) = eatBodyOfIfs~ _ 0 _ _ (near c h m holds r)
+
+    skippedBody~ : (kind : ℕ) {w : World A B} {P : Holds} → Quiet w P (skippedBody A source kind) (skippedBody B source kind)
+    unfolding skippedBody
+    skippedBody~ kind _ _ h = from~ (start~ kind h ▸ dropNext~ reasonOpener ⨾ body~ ⨾ finish~ ⨾ done~)
