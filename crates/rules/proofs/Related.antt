@@ -22,8 +22,9 @@ module _ (Skip May : ℕ → Type 0) where
     done~ : {Q : X → Y → Type 0} → Steps Q Q [] []
     _⨾_ : {Q M P : X → Y → Type 0} {f : X → Out X} {g : Y → Out Y} {fs : List (X → Out X)} {gs : List (Y → Out Y)} → Keeps Q M f g → Steps M P fs gs → Steps Q P (f ∷ fs) (g ∷ gs)
 
-  -- the same from two given positions, of which later steps may speak
+  -- the same from two given positions, of which later steps may speak; first steps may be known to go on
   pub data From {X Y : Type 0} (P : X → Y → Type 0) : List (X → Out X) → List (Y → Out Y) → X → Y → Type 1 where
+    goes : {f : X → Out X} {g : Y → Out Y} {fs : List (X → Out X)} {gs : List (Y → Out Y)} {p p′ : X} {q q′ : Y} → f p ≡ went p′ → g q ≡ went q′ → From P fs gs p′ q′ → From P (f ∷ fs) (g ∷ gs) p q
     _▸_ : {M : X → Y → Type 0} {f : X → Out X} {g : Y → Out Y} {fs : List (X → Out X)} {gs : List (Y → Out Y)} {p : X} {q : Y} → OutRel M (f p) (g q) → Steps M P fs gs → From P (f ∷ fs) (g ∷ gs) p q
 
 infixr 20 _⨾_
@@ -50,4 +51,5 @@ steps~ (k ⨾ rest) p q h = bind~ (k p q h) (steps~ rest)
 
 pub from~ : {Skip May : ℕ → Type 0} {X Y : Type 0} {P : X → Y → Type 0} {fs : List (X → Out X)} {gs : List (Y → Out Y)} {p : X} {q : Y} → From Skip May P fs gs p q → OutRel Skip May P (steps fs p) (steps gs q)
 unfolding steps
+from~ (goes e d rest) = rw (e, d) (from~ rest)
 from~ (h ▸ rest) = bind~ h (steps~ rest)

@@ -9,13 +9,14 @@ use lib.Dec.{eqb}
 use Rattle.rules.specs.Builder.{Builder, Leaf}
 use Rattle.rules.specs.Characters.{charLength}
 use Rattle.rules.specs.Cursor.{Cursor, peek, eaten, consumed, left, restStart, restLength, peekText}
-use Rattle.rules.specs.Items.{isCommandName, isIf}
+use Rattle.rules.specs.Items.{isCommandName, isIf, attachable, groupKind, closer}
 use Rattle.rules.specs.Flat.{reasonTrivia, reasonOpener, reasonCloser}
 use Rattle.rules.specs.Kinds.{leafKind, isTrivia, isTextComponent}
 use Rattle.rules.specs.Outcome.{Out, went, refused, bind, greedyEnvironment, tooManyOpen}
-use Rattle.rules.specs.Position.{Source, At, asked, building, withLexer, withList, holdingNone, leaf, start, startAt, finish, wrap}
+use Rattle.rules.specs.Position.{Source, At, asked, building, withLexer, withList, withMarks, holdingNone, leaf, start, startAt, finish, wrap}
+use Rattle.rules.specs.Reading.{items, itemList, itemGroup}
 use Rattle.rules.specs.Routines.{eatAs, eat, eatIf, eatWhile, turns, trivia, singleChar, oneIn, dropFrom, ignoreHoldingTrivia, leavesFrom, extractHoldingTrivia, text, delimiterOf, delimiter, clauseLr, dropNext, eatBodyOfIfs, skippedBody, startCommandAt}
-use Rattle.rules.specs.Scope.{Scope}
+use Rattle.rules.specs.Scope.{Scope, stops}
 use Rattle.rules.specs.SyntaxKind
 use Rattle.rules.specs.Tables.{kindAt, startAt as textAt, lengthAt}
 use Rattle.rules.specs.Token
@@ -176,3 +177,79 @@ module _ {A B : Builder} {Skip May : ℕ → Type 0} (Z : Sim A B Skip May) wher
     skippedBody~ : (kind : ℕ) {w : World A B} {P : Holds} → Quiet w P (skippedBody A source kind) (skippedBody B source kind)
     unfolding skippedBody
     skippedBody~ kind _ _ h = from~ (start~ kind h ▸ dropNext~ reasonOpener ⨾ body~ ⨾ finish~ ⨾ done~)
+
+    -- ---- lists, and items inside
+
+    -- whether the item that begins here may carry a script
+    abbrev carries : At A → Bool
+    carries p = attachable (kindAt (source .tokens) (p .lexer .token)) (source .shape (p .lexer .token))
+
+    -- `held` in front of a list, where they are kept
+    abbrev kept : Bool → Marked → Marked → Marked
+    kept true front l = front ++ l
+    kept false front l = l
+
+    -- behind an item: the marks are among some of those before it, which may still be used, and those in front too if the item may carry a script
+    data Behind (t : Bool) (front l : Marked) (k : ℕ) (f : A .Frame) (g : B .Frame) (w : World A B) (p : At A) (q : At B) : Type 0 where
+      behind : (less : Marked) → Sub less l → Near Z (node k (kept t front less) f g ∷ w) (Among less) p q → Behind t front l k f g w p q
+
+    -- what reads an item inside a node: with marks among `l`, all of which may be used, and more in front
+    abbrev Inner : (Bool → At A → Out (At A)) → (Bool → At B → Out (At B)) → Type 0
+    Inner i j = (single : Bool) (front l : Marked) (k : ℕ) (f : A .Frame) (g : B .Frame) (w : World A B) (p : At A) (q : At B)
+        → Near Z (node k (front ++ l) f g ∷ w) (Among l) p q
+        → O (Behind (carries p) front l k f g w) (i single p) (j single q)
+
+    -- in a list: its marks are among those that may be used
+    data Listing (k : ℕ) (f : A .Frame) (g : B .Frame) (w : World A B) (p : At A) (q : At B) : Type 0 where
+      listing : (l : Marked) → Near Z (node k l f g ∷ w) (Among l) p q → Listing k f g w p q
+
+    module _ {k : ℕ} {f : A .Frame} {g : B .Frame} {w : World A B} where
+      settled : {t : Bool} {front l : Marked} {p : At A} {q : At B} → Behind t front l k f g w p q → Near Z (node k [] f g ∷ w) (Among l) p q
+      settled (behind less sub (near c h m among r)) = near c h m (sub-trans among sub) (Z .forgets (sub-nil _) r)
+
+      unmoved : (t : Bool) {front l : Marked} {p : At A} {q : At B} → Near Z (node k (front ++ l) f g ∷ w) (Among l) p q → Behind t front l k f g w p q
+      unmoved true {l} h = behind l (sub-refl l) h
+      unmoved false {front} {l} h = behind l (sub-refl l) (forget~ (sub-behind front l) h)
+
+      closed : {p : At A} {q : At B} → Listing k f g w p q → Near Z (node k [] f g ∷ w) (λ m. Unit {0}) p q
+      closed (listing l (near c h m among r)) = near c h m tt (Z .forgets (sub-nil l) r)
+
+      -- last becomes the mark before the item, if it may carry a script
+      lasts : (t : Bool) (x : A .Mark × B .Mark) {l : Marked} {p : At A} {q : At B} → Behind t (x ∷ []) l k f g w p q
+          → Listing k f g w (withMarks A (p .list .start) (cond t (some (x .0)) (p .list .last)) p) (withMarks B (q .list .start) (cond t (some (x .1)) (q .list .last)) q)
+      lasts true x (behind less sub (near c h m among r)) = listing (x ∷ less) (near c h (record { scope = m .scope; start = m .start; last = some x }) (keep (sub-trans (sub-behind (listed (m .last)) (listed (m .start))) among)) r)
+      lasts false x (behind less sub (near c h m among r)) = listing less (near c h m among r)
+
+      -- a new list, with a new mark as its start
+      fresh : (s : Scope) (c : Cursor) (h : ℕ) {live : Marked} {a : A .State} {b : B .State} → Z .R (node k live f g ∷ w) a b
+          → Listing k f g w (record { lexer = c; held = h; list = record { scope = s; start = some (A .mark a); last = none }; built = a }) (record { lexer = c; held = h; list = record { scope = s; start = some (B .mark b); last = none }; built = b })
+      fresh s c h {live} {a} {b} r =
+          listing ((A .mark a, B .mark b) ∷ []) (near c h (record { scope = s; start = some (A .mark a, B .mark b); last = none }) (sub-refl _) (Z .forgets (keep (sub-nil live)) (Z .marks r)))
+
+    -- other marks are put in
+    relist~ : (to : Scope → Marks (A .Mark) (B .Mark)) {w : World A B} {P P′ : Holds} → ((s : Scope) → P′ (to s))
+        → Keeps Skip May (Near Z w P) (Near Z w P′) (λ p. went (withList A (leftList (to (p .list .scope))) p)) (λ q. went (withList B (rightList (to (q .list .scope))) q))
+    relist~ to holds′ _ _ (near c h m holds r) = went~ (near c h (to (m .scope)) (holds′ (m .scope)) r)
+
+    module _ {i : Bool → At A → Out (At A)} {j : Bool → At B → Out (At B)} (inner : Inner i j) where
+      items~ : (stop : ℕ → Bool) (n : ℕ) {k : ℕ} {f : A .Frame} {g : B .Frame} {w : World A B} → Keeps Skip May (Listing k f g w) (Listing k f g w) (items A source i stop n) (items B source j stop n)
+      unfolding items
+      items~ stop zero _ _ h = went~ h
+      items~ stop (suc n) {k} {f} {g} {w} _ _ (listing l (near c h m among r)) =
+          cond~ (sees (λ kind. cond (stop kind) false true) c)
+          (λ _. bind~ (inner false (_ ∷ []) l k f g w _ _ (near c h m among (Z .marks r))) (λ p q b. items~ stop n _ _ (lasts _ _ b)))
+          (λ _. went~ (listing l (near c h m among r)))
+
+      -- all items of a list, up to what stops its scope
+      allItems~ : (stop : Scope → ℕ → Bool) {k : ℕ} {f : A .Frame} {g : B .Frame} {w : World A B}
+          → Keeps Skip May (Listing k f g w) (Near Z (node k [] f g ∷ w) (λ m. Unit {0})) (λ p. items A source i (stop (p .list .scope)) (turns A source p) p) (λ q. items B source j (stop (q .list .scope)) (turns B source q) q)
+      allItems~ stop _ _ (listing l (near c h m among r)) = weaker~ (λ p q. closed) (items~ (stop (m .scope)) _ _ _ (listing l (near c h m among r)))
+
+      itemList~ : (scope : Scope) {k : ℕ} {live : Marked} {f : A .Frame} {g : B .Frame} {w : World A B} {P : Holds}
+          → Keeps Skip May (Near Z (node k live f g ∷ w) P) (Near Z (node k [] f g ∷ w) P) (itemList A source i scope) (itemList B source j scope)
+      unfolding itemList
+      itemList~ scope _ _ (near c h m holds r) = from~ (went~ (fresh scope c h r) ▸ allItems~ (λ s. stops scope) ⨾ relist~ (λ s. m) (λ s. holds) ⨾ done~)
+
+      itemGroup~ : (scope : Scope) {w : World A B} {P : Holds} → Quiet w P (itemGroup A source i scope) (itemGroup B source j scope)
+      unfolding itemGroup
+      itemGroup~ scope _ _ h = from~ (start~ (groupKind scope) h ▸ eat~ ⨾ itemList~ scope ⨾ eatIf~ (closer scope) ⨾ finish~ ⨾ done~)
