@@ -9,19 +9,28 @@ use lib.Dec.{eqb}
 use Rattle.rules.specs.Builder.{Builder, Leaf}
 use Rattle.rules.specs.Characters.{charLength}
 use Rattle.rules.specs.Cursor.{Cursor, peek, eaten, consumed, left, restStart, restLength, peekText}
-use Rattle.rules.specs.Items.{isCommandName, isIf, attachable, groupKind, closer}
+use Rattle.rules.specs.Items.{isCommandName, isIf, attachable, groupKind, closer, Piece, character, within, brace, item, Choice, ends, holds, takes, choose, greedyStops, nameOnly, attachableCommand, classCommand, classEnvironment, ofClass}
 use Rattle.rules.specs.Flat.{reasonTrivia, reasonOpener, reasonCloser}
 use Rattle.rules.specs.Kinds.{leafKind, isTrivia, isTextComponent}
+use Rattle.rules.specs.Matcher.{Matcher, startMatch, isGreedy, formLeft1, formInfixGreedy}
 use Rattle.rules.specs.Outcome.{Out, went, refused, bind, greedyEnvironment, tooManyOpen}
-use Rattle.rules.specs.Position.{Source, At, asked, building, withLexer, withList, withMarks, holdingNone, leaf, start, startAt, finish, wrap}
-use Rattle.rules.specs.Reading.{items, itemList, itemGroup}
+use Rattle.rules.specs.Position.{Shape, Source, At, asked, building, withLexer, withList, withMarks, holdingNone, leaf, start, startAt, finish, wrap}
+use Rattle.rules.specs.Reading.{orElse, items, itemList, itemGroup, piece, argument, chosen, choiceFor, arguments, matchArguments, greedyArgument, commandNode, commandOf, environmentArguments, beginClause, endClause, environmentItem, rightClause, itemLr, script, attachmentNode, attachTo, attachComponent, readItem, contentFor, content, contentAt, parse}
 use Rattle.rules.specs.Routines.{eatAs, eat, eatIf, eatWhile, turns, trivia, singleChar, oneIn, dropFrom, ignoreHoldingTrivia, leavesFrom, extractHoldingTrivia, text, delimiterOf, delimiter, clauseLr, dropNext, eatBodyOfIfs, skippedBody, startCommandAt}
 use Rattle.rules.specs.Scope.{Scope, stops}
 use Rattle.rules.specs.SyntaxKind
 use Rattle.rules.specs.Tables.{kindAt, startAt as textAt, lengthAt}
 use Rattle.rules.specs.Token
-use Rattle.rules.proofs.Related.{OutRel, went~, refused~, skipped~, Keeps, Steps, done~, _⨾_, From, _▸_, bind~, weaker~, cond~, steps~, from~}
+use Rattle.rules.proofs.Related.{OutRel, went~, refused~, skipped~, Keeps, Steps, done~, _⨾_, From, goes, _▸_, bind~, weaker~, cond~, steps~, from~}
 use Rattle.rules.proofs.Sim.{Sub, nil, keep, omit, sub-nil, sub-refl, sub-behind, sub-trans, lefts, rights, listed, Marks, leftList, rightList, marksOf, Among, Node, World, node, innermost, Sim}
+
+-- held trivia that are dropped do not touch a node
+dropFrom-frame : (C : Builder) (source : Source) → ((token reason : ℕ) (c : C .State) → C .frame (C .drop token reason c) ≡ C .frame c)
+    → (n i : ℕ) (c : C .State)
+    → C .frame (dropFrom C source n i c) ≡ C .frame c
+unfolding dropFrom
+dropFrom-frame C source same zero i c = refl
+dropFrom-frame C source same (suc n) i c = dropFrom-frame C source same n (i + 1) (C .drop i reasonTrivia c) ∙ same i reasonTrivia c
 
 -- positions over related states, with marks of which P holds
 pub data Near {A B : Builder} {Skip May : ℕ → Type 0} (Z : Sim A B Skip May) (w : World A B) (P : Marks (A .Mark) (B .Mark) → Type 0) : At A → At B → Type 0 where
@@ -44,17 +53,21 @@ module _ {A B : Builder} {Skip May : ℕ → Type 0} (Z : Sim A B Skip May) wher
 
   op~ : {v : World A B} {P : Holds} {o : Out (A .State)} {u : Out (B .State)} (c : Cursor) (h : ℕ) (m : Marks (A .Mark) (B .Mark)) → P m → O (Z .R v) o u
       → O (Near Z v P) (bind o (λ a. went (record { lexer = c; held = h; list = leftList m; built = a }))) (bind u (λ b. went (record { lexer = c; held = h; list = rightList m; built = b })))
-  op~ c h m holds o = bind~ o (λ x y r. went~ (near c h m holds r))
+  op~ c h m fits o = bind~ o (λ x y r. went~ (near c h m fits r))
 
   start~ : (kind : ℕ) {w : World A B} {P : Holds} {p : At A} {q : At B} → Near Z w P p q → O (Near Z (node kind (innermost w) (A .frame (p .built)) (B .frame (q .built)) ∷ w) P) (start A kind p) (start B kind q)
-  start~ kind (near c h m holds r) = op~ c h m holds (Z .starts (c .token) kind r)
+  start~ kind (near c h m fits r) = op~ c h m fits (Z .starts (c .token) kind r)
+
+  startAs~ : (kind : ℕ) {w : World A B} {P : Holds} {p : At A} {q : At B} {f : A .Frame} {g : B .Frame} → Near Z w P p q → A .frame (p .built) ≡ f → B .frame (q .built) ≡ g
+      → O (Near Z (node kind (innermost w) f g ∷ w) P) (start A kind p) (start B kind q)
+  startAs~ kind h e d = rw (e, d) at (start~ kind h)
 
   startAt~ : (kind : ℕ) {k : ℕ} {x : A .Mark × B .Mark} {older : Marked} {f : A .Frame} {g : B .Frame} {w : World A B} {P : Holds} {p : At A} {q : At B} → Near Z (node k (x ∷ older) f g ∷ w) P p q
       → O (Near Z (node kind (x ∷ older) (A .frame (p .built)) (B .frame (q .built)) ∷ node k (x ∷ older) f g ∷ w) P) (startAt A kind (x .0) p) (startAt B kind (x .1) q)
-  startAt~ kind (near c h m holds r) = op~ c h m holds (Z .startAts (c .token) kind r)
+  startAt~ kind (near c h m fits r) = op~ c h m fits (Z .startAts (c .token) kind r)
 
   finish~ : {n : Node A B} {w : World A B} {P : Holds} → Keeps Skip May (Near Z (n ∷ w) P) (Near Z w P) (finish A (n .kind) (n .left)) (finish B (n .kind) (n .right))
-  finish~ {n} _ _ (near c h m holds r) = op~ c h m holds (Z .finishes (c .token) n r)
+  finish~ {n} _ _ (near c h m fits r) = op~ c h m fits (Z .finishes (c .token) n r)
 
   -- a wrap, at the newest mark
   wrap~ : (kind : ℕ) {k : ℕ} {x : A .Mark × B .Mark} {older : Marked} {f : A .Frame} {g : B .Frame} {w : World A B} {P : Holds} {p : At A} {q : At B} → Near Z (node k (x ∷ older) f g ∷ w) P p q
@@ -64,10 +77,10 @@ module _ {A B : Builder} {Skip May : ℕ → Type 0} (Z : Sim A B Skip May) wher
 
   -- the reader is moved
   moved~ : (to : Cursor → Cursor) {w : World A B} {P : Holds} → Keeps Skip May (Near Z w P) (Near Z w P) (λ p. went (withLexer A (to (p .lexer)) p)) (λ q. went (withLexer B (to (q .lexer)) q))
-  moved~ to _ _ (near c h m holds r) = went~ (near (to c) h m holds r)
+  moved~ to _ _ (near c h m fits r) = went~ (near (to c) h m fits r)
 
   forget~ : {k : ℕ} {less live : Marked} {f : A .Frame} {g : B .Frame} {w : World A B} {P : Holds} {p : At A} {q : At B} → Sub less live → Near Z (node k live f g ∷ w) P p q → Near Z (node k less f g ∷ w) P p q
-  forget~ s (near c h m holds r) = near c h m holds (Z .forgets s r)
+  forget~ s (near c h m fits r) = near c h m fits (Z .forgets s r)
 
   -- ---- routines without an item inside
 
@@ -81,27 +94,27 @@ module _ {A B : Builder} {Skip May : ℕ → Type 0} (Z : Sim A B Skip May) wher
     sees test c = asked test (peek (source .tokens) c)
 
     leaf~ : {w : World A B} {P : Holds} (l : Leaf) → Quiet w P (leaf A l) (leaf B l)
-    leaf~ l _ _ (near c h m holds r) = op~ c h m holds (Z .leafs (c .token) l r)
+    leaf~ l _ _ (near c h m fits r) = op~ c h m fits (Z .leafs (c .token) l r)
 
     eatAs~ : {w : World A B} {P : Holds} (kind : ℕ) → Quiet w P (eatAs A source kind) (eatAs B source kind)
     unfolding eatAs
-    eatAs~ kind _ _ (near c h m holds r) = bind~ (leaf~ _ _ _ (near c h m holds r)) (moved~ eaten)
+    eatAs~ kind _ _ (near c h m fits r) = bind~ (leaf~ _ _ _ (near c h m fits r)) (moved~ eaten)
 
     eat~ : {w : World A B} {P : Holds} → Quiet w P (eat A source) (eat B source)
     unfolding eat
-    eat~ _ _ (near c h m holds r) = eatAs~ _ _ _ (near c h m holds r)
+    eat~ _ _ (near c h m fits r) = eatAs~ _ _ _ (near c h m fits r)
 
     eatIf~ : {w : World A B} {P : Holds} (kind : ℕ) → Quiet w P (eatIf A source kind) (eatIf B source kind)
     unfolding eatIf
-    eatIf~ kind _ _ (near c h m holds r) = cond~ (sees (eqb kind) c) (λ _. eat~ _ _ (near c h m holds r)) (λ _. went~ (near c h m holds r))
+    eatIf~ kind _ _ (near c h m fits r) = cond~ (sees (eqb kind) c) (λ _. eat~ _ _ (near c h m fits r)) (λ _. went~ (near c h m fits r))
 
     eatWhile~ : {w : World A B} {P : Holds} (test : ℕ → Bool) (turns : ℕ) → Quiet w P (eatWhile A source test turns) (eatWhile B source test turns)
     unfolding eatWhile
     eatWhile~ test zero _ _ h = went~ h
-    eatWhile~ test (suc n) _ _ (near c h m holds r) = cond~ (sees test c) (λ _. bind~ (eat~ _ _ (near c h m holds r)) (eatWhile~ test n)) (λ _. went~ (near c h m holds r))
+    eatWhile~ test (suc n) _ _ (near c h m fits r) = cond~ (sees test c) (λ _. bind~ (eat~ _ _ (near c h m fits r)) (eatWhile~ test n)) (λ _. went~ (near c h m fits r))
 
     eatAll~ : {w : World A B} {P : Holds} (test : ℕ → Bool) → Quiet w P (λ p. eatWhile A source test (turns A source p) p) (λ q. eatWhile B source test (turns B source q) q)
-    eatAll~ test _ _ (near c h m holds r) = eatWhile~ test _ _ _ (near c h m holds r)
+    eatAll~ test _ _ (near c h m fits r) = eatWhile~ test _ _ _ (near c h m fits r)
 
     trivia~ : {w : World A B} {P : Holds} → Quiet w P (trivia A source) (trivia B source)
     unfolding trivia
@@ -109,7 +122,7 @@ module _ {A B : Builder} {Skip May : ℕ → Type 0} (Z : Sim A B Skip May) wher
 
     singleChar~ : {w : World A B} {P : Holds} → Quiet w P (singleChar A source) (singleChar B source)
     unfolding singleChar
-    singleChar~ _ _ (near c h m holds r) = bind~ (leaf~ _ _ _ (near c h m holds r)) (moved~ (consumed (source .tokens) _))
+    singleChar~ _ _ (near c h m fits r) = bind~ (leaf~ _ _ _ (near c h m fits r)) (moved~ (consumed (source .tokens) _))
 
     oneIn~ : (kind : ℕ) {w : World A B} {P : Holds} → Quiet w P (oneIn A source kind) (oneIn B source kind)
     unfolding oneIn
@@ -129,11 +142,11 @@ module _ {A B : Builder} {Skip May : ℕ → Type 0} (Z : Sim A B Skip May) wher
 
     -- nothing is held
     heldNone~ : {w : World A B} {P : Holds} → Quiet w P (λ p. went (holdingNone A p)) (λ q. went (holdingNone B q))
-    heldNone~ _ _ (near c h m holds r) = went~ (near c (c .token) m holds r)
+    heldNone~ _ _ (near c h m fits r) = went~ (near c (c .token) m fits r)
 
     extract~ : {w : World A B} {P : Holds} → Quiet w P (extractHoldingTrivia A source) (extractHoldingTrivia B source)
     unfolding extractHoldingTrivia
-    extract~ _ _ (near c h m holds r) = bind~ (leavesFrom~ (c .token - h) h _ _ (near c h m holds r)) heldNone~
+    extract~ _ _ (near c h m fits r) = bind~ (leavesFrom~ (c .token - h) h _ _ (near c h m fits r)) heldNone~
 
     -- ---- items without an item inside
 
@@ -151,7 +164,7 @@ module _ {A B : Builder} {Skip May : ℕ → Type 0} (Z : Sim A B Skip May) wher
 
     delimiter~ : {w : World A B} {P : Holds} → Quiet w P (delimiter A source) (delimiter B source)
     unfolding delimiter
-    delimiter~ _ _ (near c h m holds r) = delimiterOf~ (peek (source .tokens) c) _ _ (near c h m holds r)
+    delimiter~ _ _ (near c h m fits r) = delimiterOf~ (peek (source .tokens) c) _ _ (near c h m fits r)
 
     clauseLr~ : {w : World A B} {P : Holds} → Quiet w P (clauseLr A source) (clauseLr B source)
     unfolding clauseLr
@@ -159,20 +172,20 @@ module _ {A B : Builder} {Skip May : ℕ → Type 0} (Z : Sim A B Skip May) wher
 
     dropNext~ : (reason : ℕ) {w : World A B} {P : Holds} → Quiet w P (dropNext A source reason) (dropNext B source reason)
     unfolding dropNext
-    dropNext~ reason _ _ (near c h m holds r) = went~ (near (eaten c) h m holds (Z .drops (c .token) reason r))
+    dropNext~ reason _ _ (near c h m fits r) = went~ (near (eaten c) h m fits (Z .drops (c .token) reason r))
 
     eatBodyOfIfs~ : (n nested : ℕ) {w : World A B} {P : Holds} → Quiet w P (eatBodyOfIfs A source n nested) (eatBodyOfIfs B source n nested)
     unfolding eatBodyOfIfs
     eatBodyOfIfs~ zero nested _ _ h = went~ h
-    eatBodyOfIfs~ (suc n) nested _ _ (near c h m holds r) =
-        let here = near c h m holds r in
+    eatBodyOfIfs~ (suc n) nested _ _ (near c h m fits r) =
+        let here = near c h m fits r in
         cond~ (sees (eqb Token.EndIf) c)
         (λ _. cond~ (eqb nested 0) (λ _. dropNext~ reasonCloser _ _ here) (λ _. bind~ (eat~ _ _ here) (eatBodyOfIfs~ n (nested - 1))))
         (λ _. cond~ (sees isIf c) (λ _. bind~ (eat~ _ _ here) (eatBodyOfIfs~ n (nested + 1)))
         (λ _. cond~ (sees (λ kind. true) c) (λ _. bind~ (eat~ _ _ here) (eatBodyOfIfs~ n nested)) (λ _. went~ here)))
 
     body~ : {w : World A B} {P : Holds} → Quiet w P (λ p. eatBodyOfIfs A source (turns A source p) 0 p) (λ q. eatBodyOfIfs B source (turns B source q) 0 q)
-    body~ _ _ (near c h m holds r) = eatBodyOfIfs~ _ 0 _ _ (near c h m holds r)
+    body~ _ _ (near c h m fits r) = eatBodyOfIfs~ _ 0 _ _ (near c h m fits r)
 
     skippedBody~ : (kind : ℕ) {w : World A B} {P : Holds} → Quiet w P (skippedBody A source kind) (skippedBody B source kind)
     unfolding skippedBody
@@ -229,7 +242,7 @@ module _ {A B : Builder} {Skip May : ℕ → Type 0} (Z : Sim A B Skip May) wher
     -- other marks are put in
     relist~ : (to : Scope → Marks (A .Mark) (B .Mark)) {w : World A B} {P P′ : Holds} → ((s : Scope) → P′ (to s))
         → Keeps Skip May (Near Z w P) (Near Z w P′) (λ p. went (withList A (leftList (to (p .list .scope))) p)) (λ q. went (withList B (rightList (to (q .list .scope))) q))
-    relist~ to holds′ _ _ (near c h m holds r) = went~ (near c h (to (m .scope)) (holds′ (m .scope)) r)
+    relist~ to fits′ _ _ (near c h m fits r) = went~ (near c h (to (m .scope)) (fits′ (m .scope)) r)
 
     module _ {i : Bool → At A → Out (At A)} {j : Bool → At B → Out (At B)} (inner : Inner i j) where
       items~ : (stop : ℕ → Bool) (n : ℕ) {k : ℕ} {f : A .Frame} {g : B .Frame} {w : World A B} → Keeps Skip May (Listing k f g w) (Listing k f g w) (items A source i stop n) (items B source j stop n)
@@ -248,8 +261,134 @@ module _ {A B : Builder} {Skip May : ℕ → Type 0} (Z : Sim A B Skip May) wher
       itemList~ : (scope : Scope) {k : ℕ} {live : Marked} {f : A .Frame} {g : B .Frame} {w : World A B} {P : Holds}
           → Keeps Skip May (Near Z (node k live f g ∷ w) P) (Near Z (node k [] f g ∷ w) P) (itemList A source i scope) (itemList B source j scope)
       unfolding itemList
-      itemList~ scope _ _ (near c h m holds r) = from~ (went~ (fresh scope c h r) ▸ allItems~ (λ s. stops scope) ⨾ relist~ (λ s. m) (λ s. holds) ⨾ done~)
+      itemList~ scope _ _ (near c h m fits r) = from~ (went~ (fresh scope c h r) ▸ allItems~ (λ s. stops scope) ⨾ relist~ (λ s. m) (λ s. fits) ⨾ done~)
 
       itemGroup~ : (scope : Scope) {w : World A B} {P : Holds} → Quiet w P (itemGroup A source i scope) (itemGroup B source j scope)
       unfolding itemGroup
       itemGroup~ scope _ _ h = from~ (start~ (groupKind scope) h ▸ eat~ ⨾ itemList~ scope ⨾ eatIf~ (closer scope) ⨾ finish~ ⨾ done~)
+
+      -- ---- arguments
+
+      pieceIn~ : (what : Piece) {k : ℕ} {f : A .Frame} {g : B .Frame} {w : World A B} → Quiet (node k [] f g ∷ w) (Among []) (piece A source i what) (piece B source j what)
+      unfolding piece
+      pieceIn~ character p q h = singleChar~ p q h
+      pieceIn~ (within scope) p q h = itemGroup~ scope p q h
+      pieceIn~ brace p q h = eat~ p q h
+      pieceIn~ item {k} {f} {g} {w} p q h = weaker~ (λ p q. settled) (inner false [] [] k f g w p q h)
+
+      piece~ : (what : Piece) {k : ℕ} {live : Marked} {f : A .Frame} {g : B .Frame} {w : World A B}
+          → Keeps Skip May (Near Z (node k live f g ∷ w) (Among [])) (Near Z (node k [] f g ∷ w) (Among [])) (piece A source i what) (piece B source j what)
+      piece~ what {live} p q h = pieceIn~ what p q (forget~ (sub-nil live) h)
+
+      argument~ : (what : Piece) {w : World A B} → Quiet w (Among []) (argument A source i what) (argument B source j what)
+      unfolding argument ignoreHoldingTrivia
+      argument~ what {w} _ _ (near c h m {a} {b} among r) =
+          let opened =
+          startAs~ SyntaxKind.ClauseArgument {P = Among []} (near c (c .token) m among (dropFrom~ (c .token - h) h r))
+          (dropFrom-frame A source (Z .frame-left) (c .token - h) h a)
+          (dropFrom-frame B source (Z .frame-right) (c .token - h) h b) in
+          from~ (goes refl refl (opened ▸ piece~ what ⨾ finish~ ⨾ heldNone~ ⨾ done~))
+
+      module _ (more : Matcher → At A → Out (At A)) (more′ : Matcher → At B → Out (At B)) {w : World A B} (goesOn : (m : Matcher) → Quiet w (Among []) (more m) (more′ m)) where
+        chosen~ : (choice : Choice) (m : Matcher) → Quiet w (Among []) (chosen A source i more choice m) (chosen B source j more′ choice m)
+        chosen~ ends m _ _ h = went~ h
+        chosen~ holds m _ _ (near c h marks among r) = goesOn m _ _ (near (eaten c) h marks among r)
+        chosen~ (takes what next) m p q h = bind~ (argument~ what p q h) (goesOn next)
+
+        choiceFor~ : (o : Option ℕ) (m : Matcher) → Quiet w (Among []) (λ p. chosen A source i more (choiceFor A source i o m p) m p) (λ q. chosen B source j more′ (choiceFor B source j o m q) m q)
+        choiceFor~ none m p q h = went~ h
+        choiceFor~ (some kind) m _ _ (near c h marks among r) = chosen~ (choose (source .states) (marks .scope) m kind) m _ _ (near c h marks among r)
+
+      arguments~ : (n : ℕ) (m : Matcher) {w : World A B} → Quiet w (Among []) (arguments A source i n m) (arguments B source j n m)
+      unfolding arguments
+      arguments~ zero m _ _ h = went~ h
+      arguments~ (suc n) m _ _ (near c h marks among r) = choiceFor~ (arguments A source i n) (arguments B source j n) (λ m. arguments~ n m) (peek (source .tokens) c) m _ _ (near c h marks among r)
+
+      allArguments~ : (m : Matcher) {w : World A B} → Quiet w (Among []) (λ p. arguments A source i (turns A source p) m p) (λ q. arguments B source j (turns B source q) m q)
+      allArguments~ m _ _ (near c h marks among r) = arguments~ _ m _ _ (near c h marks among r)
+
+      -- behind arguments the start is as it was, and there is no last
+      abbrev Around : Holds → Holds → Type 0
+      Around P P′ = (m : Marks (A .Mark) (B .Mark)) → P m → (s : Scope) → P′ (record { scope = s; start = m .start; last = none })
+
+      matchArguments~ : (m : Matcher) {w : World A B} {P P′ : Holds} → Around P P′ → Keeps Skip May (Near Z w P) (Near Z w P′) (matchArguments A source i m) (matchArguments B source j m)
+      unfolding matchArguments
+      matchArguments~ m around _ _ (near c h marks fits r) =
+          from~ (went~ (near c (c .token) (record { scope = marks .scope; start = none; last = none }) nil r) ▸ allArguments~ m ⨾ relist~ (λ s. record { scope = s; start = marks .start; last = none }) (around marks fits) ⨾ done~)
+
+      anew~ : {k : ℕ} {live : Marked} {f : A .Frame} {g : B .Frame} {w : World A B} {P : Holds}
+          → Keeps Skip May (Near Z (node k live f g ∷ w) P) (Listing k f g w) (λ p. went (withMarks A (some (A .mark (p .built))) none p)) (λ q. went (withMarks B (some (B .mark (q .built))) none q))
+      anew~ _ _ (near c h m fits r) = went~ (fresh (m .scope) c h r)
+
+      greedyArgument~ : {w : World A B} {P P′ : Holds} → Around P P′ → Keeps Skip May (Near Z w P) (Near Z w P′) (greedyArgument A source i) (greedyArgument B source j)
+      unfolding greedyArgument
+      greedyArgument~ {P} around _ _ (near c h marks fits r) =
+          from~ (start~ SyntaxKind.ClauseArgument {P = P} (near c h marks fits r) ▸ anew~ ⨾ allItems~ greedyStops ⨾ relist~ (λ s. record { scope = s; start = marks .start; last = none }) (around marks fits) ⨾ finish~ ⨾ done~)
+
+      -- ---- commands
+
+      commandNode~ : {rest : At A → Out (At A)} {rest′ : At B → Out (At B)} {live : Marked} {f : A .Frame} {g : B .Frame} {w : World A B} {P P′ : Holds}
+          → Keeps Skip May (Near Z (node SyntaxKind.ItemCmd live f g ∷ w) P) (Near Z (node SyntaxKind.ItemCmd live f g ∷ w) P′) rest rest′
+          → Keeps Skip May (Near Z (node SyntaxKind.ItemCmd live f g ∷ w) P) (Near Z w P′) (commandNode A source i rest f) (commandNode B source j rest′ g)
+      unfolding commandNode
+      commandNode~ k = steps~ (eat~ ⨾ k ⨾ finish~ ⨾ done~)
+
+      -- among marks, the start alone is too
+      around-among : (l : Marked) → Around (Among l) (Among l)
+      around-among l m among s = sub-trans (sub-behind (listed (m .last)) (listed (m .start))) among
+
+      -- there is no start: what last is does not matter any more
+      abbrev Startless : Holds
+      Startless m = m .start ≡ none
+
+      -- a command's node is opened at the newest mark, if at one
+      data Newest : Option (A .Mark × B .Mark) → Marked → Type 0 where
+        at-none : (l : Marked) → Newest none l
+        at-first : (x : A .Mark × B .Mark) (l : Marked) → Newest (some x) (x ∷ l)
+
+      startCommandAt~ : {o : Option (A .Mark × B .Mark)} {k : ℕ} {live : Marked} {f : A .Frame} {g : B .Frame} {w : World A B} {P : Holds} {p : At A} {q : At B} → Newest o live → Near Z (node k live f g ∷ w) P p q
+          → O (Near Z (node SyntaxKind.ItemCmd live (A .frame (p .built)) (B .frame (q .built)) ∷ node k live f g ∷ w) P) (startCommandAt A source (lefts o) p) (startCommandAt B source (rights o) q)
+      unfolding startCommandAt
+      startCommandAt~ (at-none l) h = start~ SyntaxKind.ItemCmd h
+      startCommandAt~ (at-first x l) h = wrap~ SyntaxKind.ItemCmd h
+
+      at-listed : (o : Option (A .Mark × B .Mark)) → Newest o (listed o)
+      at-listed none = at-none []
+      at-listed (some x) = at-first x []
+
+      -- left1: at last, else at start
+      left1~ : (s : Scope) (first last : Option (A .Mark × B .Mark)) (c : Cursor) (h : ℕ) {k : ℕ} {f : A .Frame} {g : B .Frame} {w : World A B} {a : A .State} {b : B .State}
+          → Z .R (node k (listed last ++ listed first) f g ∷ w) a b
+          → O (Near Z (node SyntaxKind.ItemCmd (listed last ++ listed first) (A .frame a) (B .frame b) ∷ node k (listed last ++ listed first) f g ∷ w) (Among (listed last ++ listed first)))
+          (startCommandAt A source (orElse A source (lefts last) (lefts first)) (record { lexer = c; held = h; list = record { scope = s; start = lefts first; last = lefts last }; built = a }))
+          (startCommandAt B source (orElse B source (rights last) (rights first)) (record { lexer = c; held = h; list = record { scope = s; start = rights first; last = rights last }; built = b }))
+      left1~ s first none c h r = startCommandAt~ (at-listed first) (near c h (record { scope = s; start = first; last = none }) (sub-refl _) r)
+      left1~ s first (some x) c h r = startCommandAt~ (at-first x (listed first)) (near c h (record { scope = s; start = first; last = some x }) (sub-refl _) r)
+
+      module _ (front l : Marked) (k : ℕ) (f : A .Frame) (g : B .Frame) (w : World A B) where
+        -- what was there before an item
+        abbrev Before : At A → At B → Type 0
+        Before = Near Z (node k (front ++ l) f g ∷ w) (Among l)
+
+        -- an item at whose marks nothing was wrapped, whether it may carry a script or not
+        plain~ : (t : Bool) {o : Out (At A)} {u : Out (At B)} → O Before o u → O (Behind t front l k f g w) o u
+        plain~ t o = weaker~ (λ p q. unmoved t) o
+
+        -- an item that wraps may carry none
+        wrapped~ : {t : Bool} {less : Marked} {o : Out (At A)} {u : Out (At B)} → t ≡ false → Sub less l → O (Near Z (node k less f g ∷ w) (Among less)) o u → O (Behind t front l k f g w) o u
+        wrapped~ {less} e sub o = rw e (weaker~ (λ p q h. behind less sub h) o)
+
+        commandOf~ : (s : Shape) → Keeps Skip May Before (Behind (attachableCommand s) front l k f g w) (commandOf A source i s) (commandOf B source j s)
+        unfolding commandOf
+        commandOf~ s _ _ (near c h m among r) =
+            let here = near c h m among r in
+            cond~ (nameOnly s) (λ _. plain~ _ (oneIn~ SyntaxKind.ItemCmd _ _ here))
+            (λ _. cond~ (eqb (s .form) formLeft1)
+            (λ e. wrapped~ (rw e) among (from~ (left1~ (m .scope) (m .start) (m .last) c h (Z .forgets (sub-trans among (sub-behind front l)) r) ▸ commandNode~ (λ p q h. went~ h) ⨾ done~)))
+            (λ d. cond~ (eqb (s .form) formInfixGreedy)
+            (λ e. wrapped~ (rw (d, e)) (sub-nil l)
+            (weaker~ (λ p q. forget~ (sub-nil _))
+            (from~ (goes refl refl (startCommandAt~ {P = Startless} (at-listed (m .start)) (near c h (record { scope = m .scope; start = none; last = m .last }) refl (Z .forgets (sub-trans (sub-trans (sub-behind (listed (m .last)) (listed (m .start))) among) (sub-behind front l)) r)) ▸ commandNode~ (greedyArgument~ (λ n e s. rw e nil)) ⨾ done~)))))
+            (λ _. cond~ (isGreedy (startMatch (s .form) (s .value)))
+            (λ _. plain~ _ (from~ (start~ SyntaxKind.ItemCmd here ▸ commandNode~ (greedyArgument~ (around-among l)) ⨾ done~)))
+            (λ _. plain~ _ (from~ (start~ SyntaxKind.ItemCmd here ▸ commandNode~ (matchArguments~ _ (around-among l)) ⨾ extract~ ⨾ done~))))))
