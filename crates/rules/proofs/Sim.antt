@@ -1,17 +1,15 @@
 -- One simulation theorem over the control part of the rules: two builders that are related, operation by operation, have related runs.
 -- What may still be asked of a builder changes with the nodes that are open and the marks that are kept, so the relation is over a world that says it.
 -- Assumes nothing.
-use Prim.Native.Nat.{ℕ, zero, suc, _+_, _-_}
-use mathlib.Core.Path.{_≡_, refl, _∙_}
-use mathlib.Core.Bool.{Bool, true, false, cond}
+use Prim.Native.Nat.{ℕ}
+use mathlib.Core.Path.{_≡_}
 use mathlib.Core.List.{List, [], _∷_, _++_}
 use mathlib.Core.Option.{Option, none, some}
 use Rattle.rules.specs.Builder.{Builder, Leaf}
-use Rattle.rules.specs.Cursor.{Cursor}
-use Rattle.rules.specs.Outcome.{Out, greedyEnvironment, tooManyOpen}
-use Rattle.rules.specs.Position.{ListState, At}
+use Rattle.rules.specs.Outcome.{greedyEnvironment, tooManyOpen}
+use Rattle.rules.specs.Position.{ListState}
 use Rattle.rules.specs.Scope.{Scope}
-use Rattle.rules.proofs.Related.{OutRel, Keeps}
+use Rattle.rules.proofs.Related.{OutRel}
 
 -- a list with some of its elements left out
 pub data Sub {T : Type 0} : List T → List T → Type 0 where

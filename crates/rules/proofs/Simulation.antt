@@ -5,24 +5,25 @@ use mathlib.Core.Path.{_≡_, refl, _∙_}
 use mathlib.Core.Bool.{Bool, true, false, cond}
 use mathlib.Core.List.{List, [], _∷_, _++_}
 use mathlib.Core.Option.{Option, none, some}
-use lib.Dec.{eqb}
+use lib.Dec.{eqb, ltb}
 use Rattle.rules.specs.Builder.{Builder, Leaf}
-use Rattle.rules.specs.Characters.{charLength}
-use Rattle.rules.specs.Cursor.{Cursor, peek, eaten, consumed, left, restStart, restLength, peekText}
-use Rattle.rules.specs.Items.{isCommandName, isIf, attachable, groupKind, closer, Piece, character, within, brace, item, Choice, ends, holds, takes, choose, greedyStops, nameOnly, attachableCommand, classCommand, classEnvironment, ofClass}
+use Rattle.rules.specs.Cursor.{Cursor, atStart, peek, eaten, consumed, left}
+use Rattle.rules.specs.Items.{Item, plain, error, word, comma, group, attachment, command, environment, leftRight, skipped, itemOf, attachableItem, isCommandName, isIf, attachable, groupKind, closer, Piece, character, within, brace, item, Choice, ends, holds, takes, choose, greedyStops, nameOnly, attachableCommand, classCommand, classEnvironment, ofClass}
 use Rattle.rules.specs.Flat.{reasonTrivia, reasonOpener, reasonCloser}
-use Rattle.rules.specs.Kinds.{leafKind, isTrivia, isTextComponent}
+use Rattle.rules.specs.Kinds.{isTrivia, isTextComponent}
+use Rattle.rules.specs.Limits
 use Rattle.rules.specs.Matcher.{Matcher, startMatch, isGreedy, formLeft1, formInfixGreedy}
 use Rattle.rules.specs.Outcome.{Out, went, refused, bind, greedyEnvironment, tooManyOpen}
-use Rattle.rules.specs.Position.{Shape, Source, At, asked, building, withLexer, withList, withMarks, holdingNone, leaf, start, startAt, finish, wrap}
+use Rattle.rules.specs.Position.{Shape, Source, At, place, asked, withLexer, withList, withMarks, holdingNone, leaf, start, startAt, finish, wrap}
 use Rattle.rules.specs.Reading.{orElse, items, itemList, itemGroup, piece, argument, chosen, choiceFor, arguments, matchArguments, greedyArgument, commandNode, commandOf, environmentArguments, beginClause, endClause, environmentItem, rightClause, itemLr, script, attachmentNode, attachTo, attachComponent, readItem, contentFor, content, contentAt, parse}
 use Rattle.rules.specs.Routines.{eatAs, eat, eatIf, eatWhile, turns, trivia, singleChar, oneIn, dropFrom, ignoreHoldingTrivia, leavesFrom, extractHoldingTrivia, text, delimiterOf, delimiter, clauseLr, dropNext, eatBodyOfIfs, skippedBody, startCommandAt}
+use Rattle.rules.specs.Scope
 use Rattle.rules.specs.Scope.{Scope, stops}
 use Rattle.rules.specs.SyntaxKind
-use Rattle.rules.specs.Tables.{kindAt, startAt as textAt, lengthAt}
+use Rattle.rules.specs.Tables.{kindAt, tokenCount}
 use Rattle.rules.specs.Token
-use Rattle.rules.proofs.Related.{OutRel, went~, refused~, skipped~, Keeps, Steps, done~, _⨾_, From, goes, _▸_, bind~, weaker~, cond~, steps~, from~}
-use Rattle.rules.proofs.Sim.{Sub, nil, keep, omit, sub-nil, sub-refl, sub-behind, sub-trans, lefts, rights, listed, Marks, leftList, rightList, marksOf, Among, Node, World, node, innermost, Sim}
+use Rattle.rules.proofs.Related.{OutRel, went~, refused~, Keeps, done~, _⨾_, goes, _▸_, bind~, weaker~, cond~, steps~, from~}
+use Rattle.rules.proofs.Sim.{Sub, nil, keep, sub-nil, sub-refl, sub-behind, sub-trans, lefts, rights, listed, Marks, leftList, rightList, Among, Node, World, node, innermost, Sim}
 
 -- held trivia that are dropped do not touch a node
 dropFrom-frame : (C : Builder) (source : Source) → ((token reason : ℕ) (c : C .State) → C .frame (C .drop token reason c) ≡ C .frame c)
@@ -365,6 +366,47 @@ module _ {A B : Builder} {Skip May : ℕ → Type 0} (Z : Sim A B Skip May) wher
       left1~ s first none c h r = startCommandAt~ (at-listed first) (near c h (record { scope = s; start = first; last = none }) (sub-refl _) r)
       left1~ s first (some x) c h r = startCommandAt~ (at-first x (listed first)) (near c h (record { scope = s; start = first; last = some x }) (sub-refl _) r)
 
+      -- ---- environments, left-right bodies, scripts
+
+      environmentArguments~ : (s : Shape) (l : Marked) {w : World A B} → Quiet w (Among l) (environmentArguments A source i s) (environmentArguments B source j s)
+      unfolding environmentArguments
+      environmentArguments~ s l _ _ (near c h m among r) =
+          let here = near c h m among r in
+          cond~ (nameOnly s) (λ _. heldNone~ _ _ here)
+          (λ _. cond~ (isGreedy (startMatch (s .form) (s .value))) (λ _. refused~ greedyEnvironment (c .token) (Z .greedy)) (λ _. matchArguments~ _ (around-among l) _ _ here))
+
+      beginClause~ : (l : Marked) {w : World A B} → Quiet w (Among l) (beginClause A source i) (beginClause B source j)
+      unfolding beginClause
+      beginClause~ l _ _ (near c h m among r) =
+          from~ (start~ SyntaxKind.ItemBegin {P = Among l} (near c h m among r) ▸ eat~ ⨾ environmentArguments~ (ofClass classEnvironment (source .shape (c .token))) l ⨾ finish~ ⨾ extract~ ⨾ done~)
+
+      endClause~ : {w : World A B} {P : Holds} → Quiet w P (endClause A source i) (endClause B source j)
+      unfolding endClause
+      endClause~ _ _ (near c h m fits r) = cond~ (sees (eqb Token.EndEnvironment) c) (λ _. oneIn~ SyntaxKind.ItemEnd _ _ (near c h m fits r)) (λ _. went~ (near c h m fits r))
+
+      environmentItem~ : (l : Marked) {w : World A B} → Quiet w (Among l) (environmentItem A source i) (environmentItem B source j)
+      unfolding environmentItem
+      environmentItem~ l _ _ h = from~ (start~ SyntaxKind.ItemEnv h ▸ beginClause~ l ⨾ itemList~ Scope.Environment ⨾ endClause~ ⨾ finish~ ⨾ done~)
+
+      rightClause~ : {w : World A B} {P : Holds} → Quiet w P (rightClause A source i) (rightClause B source j)
+      unfolding rightClause
+      rightClause~ _ _ (near c h m fits r) = cond~ (sees (eqb Token.Right) c) (λ _. clauseLr~ _ _ (near c h m fits r)) (λ _. went~ (near c h m fits r))
+
+      itemLr~ : {w : World A B} {P : Holds} → Quiet w P (itemLr A source i) (itemLr B source j)
+      unfolding itemLr
+      itemLr~ _ _ h = from~ (start~ SyntaxKind.ItemLR h ▸ clauseLr~ ⨾ itemList~ Scope.LR ⨾ rightClause~ ⨾ finish~ ⨾ done~)
+
+      script~ : (hasScript : Bool) (l : Marked) {k : ℕ} {f : A .Frame} {g : B .Frame} {w : World A B}
+          → Keeps Skip May (Near Z (node k l f g ∷ w) (Among l)) (Near Z (node k [] f g ∷ w) (Among l)) (script A source i hasScript) (script B source j hasScript)
+      unfolding script
+      script~ true l {k} {f} {g} {w} p q h = steps~ (trivia~ ⨾ (λ p q h. weaker~ (λ p q. settled) (inner true [] l k f g w p q h)) ⨾ done~) p q h
+      script~ false l p q h = went~ (forget~ (sub-nil l) h)
+
+      attachmentNode~ : (hasScript : Bool) (l : Marked) {f : A .Frame} {g : B .Frame} {w : World A B}
+          → Keeps Skip May (Near Z (node SyntaxKind.ItemAttachComponent l f g ∷ w) (Among l)) (Near Z w (Among l)) (attachmentNode A source i hasScript f) (attachmentNode B source j hasScript g)
+      unfolding attachmentNode
+      attachmentNode~ hasScript l = steps~ (eat~ ⨾ script~ hasScript l ⨾ finish~ ⨾ done~)
+
       module _ (front l : Marked) (k : ℕ) (f : A .Frame) (g : B .Frame) (w : World A B) where
         -- what was there before an item
         abbrev Before : At A → At B → Type 0
@@ -392,3 +434,61 @@ module _ {A B : Builder} {Skip May : ℕ → Type 0} (Z : Sim A B Skip May) wher
             (λ _. cond~ (isGreedy (startMatch (s .form) (s .value)))
             (λ _. plain~ _ (from~ (start~ SyntaxKind.ItemCmd here ▸ commandNode~ (greedyArgument~ (around-among l)) ⨾ done~)))
             (λ _. plain~ _ (from~ (start~ SyntaxKind.ItemCmd here ▸ commandNode~ (matchArguments~ _ (around-among l)) ⨾ extract~ ⨾ done~))))))
+
+        attachTo~ : (hasScript : Bool) (s : Scope) (first last : Option (A .Mark × B .Mark)) (c : Cursor) (h : ℕ) {a : A .State} {b : B .State}
+            → Sub (listed last ++ listed first) l
+            → Z .R (node k (front ++ l) f g ∷ w) a b
+            → O (Behind false front l k f g w)
+            (attachTo A source i hasScript (lefts last) (record { lexer = c; held = h; list = record { scope = s; start = lefts first; last = lefts last }; built = a }))
+            (attachTo B source j hasScript (rights last) (record { lexer = c; held = h; list = record { scope = s; start = rights first; last = rights last }; built = b }))
+        unfolding attachTo
+        attachTo~ hasScript s first (some x) c h among r =
+            wrapped~ refl among
+            (from~ (wrap~ SyntaxKind.ItemAttachComponent (near c h (record { scope = s; start = first; last = some x }) (sub-refl _) (Z .forgets (sub-trans among (sub-behind front l)) r)) ▸ attachmentNode~ hasScript _ ⨾ done~))
+        attachTo~ true s first none c h among r =
+            wrapped~ refl (sub-refl l)
+            (from~ (start~ SyntaxKind.ItemAttachComponent (near c h (record { scope = s; start = first; last = none }) among (Z .forgets (sub-behind front l) r)) ▸ attachmentNode~ true l ⨾ done~))
+        attachTo~ false s first none c h among r = plain~ false (eat~ _ _ (near c h (record { scope = s; start = first; last = none }) among r))
+
+        -- ---- any item
+
+        readItem~ : (single : Bool) (what : Item) (kind : ℕ) (c : Cursor) (h : ℕ) (m : Marks (A .Mark) (B .Mark)) {a : A .State} {b : B .State} → Among l m → Z .R (node k (front ++ l) f g ∷ w) a b
+            → O (Behind (attachableItem what kind (source .shape (c .token))) front l k f g w)
+            (readItem A source i single what (record { lexer = c; held = h; list = leftList m; built = a }))
+            (readItem B source j single what (record { lexer = c; held = h; list = rightList m; built = b }))
+        unfolding readItem attachComponent
+        readItem~ single plain kind c h m among r = plain~ _ (eat~ _ _ (near c h m among r))
+        readItem~ single error kind c h m among r = plain~ true (oneIn~ SyntaxKind.TokenError _ _ (near c h m among r))
+        readItem~ single word kind c h m among r = plain~ true (cond~ single (λ _. singleChar~ _ _ (near c h m among r)) (λ _. text~ _ _ (near c h m among r)))
+        readItem~ single comma kind c h m among r = plain~ true (text~ _ _ (near c h m among r))
+        readItem~ single (group scope) kind c h m among r = plain~ _ (itemGroup~ scope _ _ (near c h m among r))
+        readItem~ single (attachment hasScript) kind c h m among r = attachTo~ hasScript (m .scope) (m .start) (m .last) c h among r
+        readItem~ single command kind c h m among r = commandOf~ (ofClass classCommand (source .shape (c .token))) _ _ (near c h m among r)
+        readItem~ single environment kind c h m among r = plain~ true (environmentItem~ l _ _ (near c h m among r))
+        readItem~ single leftRight kind c h m among r = plain~ true (itemLr~ _ _ (near c h m among r))
+        readItem~ single (skipped kind′) kind c h m among r = plain~ true (skippedBody~ kind′ _ _ (near c h m among r))
+
+        contentIf~ : (t single : Bool) (c : Cursor) (h : ℕ) (m : Marks (A .Mark) (B .Mark)) {a : A .State} {b : B .State} → Among l m → Z .R (node k (front ++ l) f g ∷ w) a b
+            → O (Behind (attachable (kindAt (source .tokens) (c .token)) (source .shape (c .token))) front l k f g w)
+            (contentFor A source i (cond t (some (kindAt (source .tokens) (c .token))) none) single (record { lexer = c; held = h; list = leftList m; built = a }))
+            (contentFor B source j (cond t (some (kindAt (source .tokens) (c .token))) none) single (record { lexer = c; held = h; list = rightList m; built = b }))
+        unfolding attachable
+        contentIf~ true single c h m among r = readItem~ single (itemOf (kindAt (source .tokens) (c .token))) (kindAt (source .tokens) (c .token)) c h m among r
+        contentIf~ false single c h m among r = went~ (unmoved _ (near c h m among r))
+
+      content~ : Inner (content A source i) (content B source j)
+      unfolding content peek
+      content~ single front l k f g w _ _ (near c h m among r) = contentIf~ front l k f g w (ltb (c .token) (tokenCount (source .tokens))) single c h m among r
+
+    tooDeep~ : {w : World A B} {P : Holds} {p : At A} {q : At B} {Q : At A → At B → Type 0} → Near Z w P p q → O Q (refused tooManyOpen (place A p)) (refused tooManyOpen (place B q))
+    tooDeep~ (near c h m fits r) = refused~ tooManyOpen (c .token) (Z .deep)
+
+    contentAt~ : (d : ℕ) → Inner (contentAt A source d) (contentAt B source d)
+    unfolding contentAt
+    contentAt~ zero = λ single front l k f g w p q h. tooDeep~ h
+    contentAt~ (suc d) = content~ (contentAt~ d)
+
+    -- related builders at the start: related runs, to positions outside all lists
+    pub simulation : {a : A .State} {b : B .State} → Z .R [] a b → OutRel Skip May (Near Z [] (λ m. m ≡ record { scope = Scope.Root; start = none; last = none })) (parse A source a) (parse B source b)
+    unfolding parse
+    simulation r = from~ (start~ SyntaxKind.ScopeRoot (near atStart 0 (record { scope = Scope.Root; start = none; last = none }) refl r) ▸ itemList~ (contentAt~ Limits.nodes) Scope.Root ⨾ finish~ ⨾ done~)
