@@ -9,6 +9,7 @@ use Rattle.rules.specs.Builder.{Builder, Leaf}
 use Rattle.rules.specs.Outcome.{greedyEnvironment, tooManyOpen}
 use Rattle.rules.specs.Position.{ListState}
 use Rattle.rules.specs.Scope.{Scope}
+use Rattle.rules.specs.SyntaxKind.{ScopeRoot}
 use Rattle.rules.proofs.Related.{OutRel}
 
 -- a list with some of its elements left out
@@ -104,7 +105,10 @@ pub record Sim (A B : Builder) (Skip May : ℕ → Type 0) : Type 1 where
       → Sub less live
       → R (node k live f g ∷ w) a b
       → R (node k less f g ∷ w) a b
-  pub leafs : (place : ℕ) (l : Leaf) {w : World A B} {a : A .State} {b : B .State} → R w a b → OutRel Skip May (R w) (A .leaf place l a) (B .leaf place l b)
+  pub leafs :
+      (place : ℕ) (l : Leaf) {top : Node A B} {w : World A B} {a : A .State} {b : B .State}
+      → R (top ∷ w) a b
+      → OutRel Skip May (R (top ∷ w)) (A .leaf place l a) (B .leaf place l b)
   -- marks that were made before a node was opened may be used in it
   pub starts : (place kind : ℕ) {w : World A B} {a : A .State} {b : B .State}
       → R w a b
@@ -114,9 +118,16 @@ pub record Sim (A B : Builder) (Skip May : ℕ → Type 0) : Type 1 where
       → R (node k (x ∷ older) f g ∷ w) a b
       → OutRel Skip May (R (node kind (x ∷ older) (A .frame a) (B .frame b) ∷ node k (x ∷ older) f g ∷ w)) (A .startAt place kind (x .0) a) (B .startAt place kind (x .1) b)
   -- a node's end takes its kind and its frames, and leaves the world as it was before it
-  pub finishes : (place : ℕ) (n : Node A B) {w : World A B} {a : A .State} {b : B .State}
-      → R (n ∷ w) a b
-      → OutRel Skip May (R w) (A .finish place (n .kind) (n .left) a) (B .finish place (n .kind) (n .right) b)
+  pub finishes :
+      (place : ℕ) (n : Node A B) {top : Node A B} {w : World A B} {a : A .State} {b : B .State}
+      → R (n ∷ top ∷ w) a b
+      → OutRel Skip May (R (top ∷ w)) (A .finish place (n .kind) (n .left) a) (B .finish place (n .kind) (n .right) b)
+  -- and the root's end is the end
+  pub Whole : A .State → B .State → Type 0
+  pub ends :
+      (place : ℕ) {live : List (A .Mark × B .Mark)} {f : A .Frame} {g : B .Frame} {a : A .State} {b : B .State}
+      → R (node ScopeRoot live f g ∷ []) a b
+      → OutRel Skip May Whole (A .finish place ScopeRoot f a) (B .finish place ScopeRoot g b)
   pub drops : (token reason : ℕ) {w : World A B} {a : A .State} {b : B .State} → R w a b → R w (A .drop token reason a) (B .drop token reason b)
   -- what is dropped does not touch a node
   pub frame-left : (token reason : ℕ) (a : A .State) → A .frame (A .drop token reason a) ≡ A .frame a

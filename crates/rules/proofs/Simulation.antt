@@ -40,6 +40,12 @@ pub data Near {A B : Builder} {Skip May : ℕ → Type 0} (Z : Sim A B Skip May)
       → Z .R w a b
       → Near Z w P (record { lexer = c; held = h; list = leftList m; built = a }) (record { lexer = c; held = h; list = rightList m; built = b })
 
+-- positions at the end of a run: the same token, outside all lists, and what was built is related as a whole
+pub data Ended {A B : Builder} {Skip May : ℕ → Type 0} (Z : Sim A B Skip May) : At A → At B → Type 0 where
+  ended : (c : Cursor) (h : ℕ) {a : A .State} {b : B .State}
+      → Z .Whole a b
+      → Ended Z (record { lexer = c; held = h; list = record { scope = Scope.Root; start = none; last = none }; built = a }) (record { lexer = c; held = h; list = record { scope = Scope.Root; start = none; last = none }; built = b })
+
 module _ {A B : Builder} {Skip May : ℕ → Type 0} (Z : Sim A B Skip May) where
   abbrev Marked : Type 0
   Marked = List (A .Mark × B .Mark)
@@ -67,7 +73,7 @@ module _ {A B : Builder} {Skip May : ℕ → Type 0} (Z : Sim A B Skip May) wher
       → O (Near Z (node kind (x ∷ older) (A .frame (p .built)) (B .frame (q .built)) ∷ node k (x ∷ older) f g ∷ w) P) (startAt A kind (x .0) p) (startAt B kind (x .1) q)
   startAt~ kind (near c h m fits r) = op~ c h m fits (Z .startAts (c .token) kind r)
 
-  finish~ : {n : Node A B} {w : World A B} {P : Holds} → Keeps Skip May (Near Z (n ∷ w) P) (Near Z w P) (finish A (n .kind) (n .left)) (finish B (n .kind) (n .right))
+  finish~ : {n top : Node A B} {w : World A B} {P : Holds} → Keeps Skip May (Near Z (n ∷ top ∷ w) P) (Near Z (top ∷ w) P) (finish A (n .kind) (n .left)) (finish B (n .kind) (n .right))
   finish~ {n} _ _ (near c h m fits r) = op~ c h m fits (Z .finishes (c .token) n r)
 
   -- a wrap, at the newest mark
@@ -94,38 +100,38 @@ module _ {A B : Builder} {Skip May : ℕ → Type 0} (Z : Sim A B Skip May) wher
     abbrev sees : (ℕ → Bool) → Cursor → Bool
     sees test c = asked test (peek (source .tokens) c)
 
-    leaf~ : {w : World A B} {P : Holds} (l : Leaf) → Quiet w P (leaf A l) (leaf B l)
+    leaf~ : {top : Node A B} {w : World A B} {P : Holds} (l : Leaf) → Quiet (top ∷ w) P (leaf A l) (leaf B l)
     leaf~ l _ _ (near c h m fits r) = op~ c h m fits (Z .leafs (c .token) l r)
 
-    eatAs~ : {w : World A B} {P : Holds} (kind : ℕ) → Quiet w P (eatAs A source kind) (eatAs B source kind)
+    eatAs~ : {top : Node A B} {w : World A B} {P : Holds} (kind : ℕ) → Quiet (top ∷ w) P (eatAs A source kind) (eatAs B source kind)
     unfolding eatAs
     eatAs~ kind _ _ (near c h m fits r) = bind~ (leaf~ _ _ _ (near c h m fits r)) (moved~ eaten)
 
-    eat~ : {w : World A B} {P : Holds} → Quiet w P (eat A source) (eat B source)
+    eat~ : {top : Node A B} {w : World A B} {P : Holds} → Quiet (top ∷ w) P (eat A source) (eat B source)
     unfolding eat
     eat~ _ _ (near c h m fits r) = eatAs~ _ _ _ (near c h m fits r)
 
-    eatIf~ : {w : World A B} {P : Holds} (kind : ℕ) → Quiet w P (eatIf A source kind) (eatIf B source kind)
+    eatIf~ : {top : Node A B} {w : World A B} {P : Holds} (kind : ℕ) → Quiet (top ∷ w) P (eatIf A source kind) (eatIf B source kind)
     unfolding eatIf
     eatIf~ kind _ _ (near c h m fits r) = cond~ (sees (eqb kind) c) (λ _. eat~ _ _ (near c h m fits r)) (λ _. went~ (near c h m fits r))
 
-    eatWhile~ : {w : World A B} {P : Holds} (test : ℕ → Bool) (turns : ℕ) → Quiet w P (eatWhile A source test turns) (eatWhile B source test turns)
+    eatWhile~ : {top : Node A B} {w : World A B} {P : Holds} (test : ℕ → Bool) (turns : ℕ) → Quiet (top ∷ w) P (eatWhile A source test turns) (eatWhile B source test turns)
     unfolding eatWhile
     eatWhile~ test zero _ _ h = went~ h
     eatWhile~ test (suc n) _ _ (near c h m fits r) = cond~ (sees test c) (λ _. bind~ (eat~ _ _ (near c h m fits r)) (eatWhile~ test n)) (λ _. went~ (near c h m fits r))
 
-    eatAll~ : {w : World A B} {P : Holds} (test : ℕ → Bool) → Quiet w P (λ p. eatWhile A source test (turns A source p) p) (λ q. eatWhile B source test (turns B source q) q)
+    eatAll~ : {top : Node A B} {w : World A B} {P : Holds} (test : ℕ → Bool) → Quiet (top ∷ w) P (λ p. eatWhile A source test (turns A source p) p) (λ q. eatWhile B source test (turns B source q) q)
     eatAll~ test _ _ (near c h m fits r) = eatWhile~ test _ _ _ (near c h m fits r)
 
-    trivia~ : {w : World A B} {P : Holds} → Quiet w P (trivia A source) (trivia B source)
+    trivia~ : {top : Node A B} {w : World A B} {P : Holds} → Quiet (top ∷ w) P (trivia A source) (trivia B source)
     unfolding trivia
     trivia~ = eatAll~ isTrivia
 
-    singleChar~ : {w : World A B} {P : Holds} → Quiet w P (singleChar A source) (singleChar B source)
+    singleChar~ : {top : Node A B} {w : World A B} {P : Holds} → Quiet (top ∷ w) P (singleChar A source) (singleChar B source)
     unfolding singleChar
     singleChar~ _ _ (near c h m fits r) = bind~ (leaf~ _ _ _ (near c h m fits r)) (moved~ (consumed (source .tokens) _))
 
-    oneIn~ : (kind : ℕ) {w : World A B} {P : Holds} → Quiet w P (oneIn A source kind) (oneIn B source kind)
+    oneIn~ : (kind : ℕ) {top : Node A B} {w : World A B} {P : Holds} → Quiet (top ∷ w) P (oneIn A source kind) (oneIn B source kind)
     unfolding oneIn
     oneIn~ kind _ _ h = from~ (start~ kind h ▸ eat~ ⨾ finish~ ⨾ done~)
 
@@ -136,26 +142,26 @@ module _ {A B : Builder} {Skip May : ℕ → Type 0} (Z : Sim A B Skip May) wher
     dropFrom~ zero i r = r
     dropFrom~ (suc n) i r = dropFrom~ n (i + 1) (Z .drops i reasonTrivia r)
 
-    leavesFrom~ : (n i : ℕ) {w : World A B} {P : Holds} → Quiet w P (leavesFrom A source n i) (leavesFrom B source n i)
+    leavesFrom~ : (n i : ℕ) {top : Node A B} {w : World A B} {P : Holds} → Quiet (top ∷ w) P (leavesFrom A source n i) (leavesFrom B source n i)
     unfolding leavesFrom
     leavesFrom~ zero i _ _ h = went~ h
     leavesFrom~ (suc n) i _ _ h = bind~ (leaf~ _ _ _ h) (leavesFrom~ n (i + 1))
 
     -- nothing is held
-    heldNone~ : {w : World A B} {P : Holds} → Quiet w P (λ p. went (holdingNone A p)) (λ q. went (holdingNone B q))
+    heldNone~ : {top : Node A B} {w : World A B} {P : Holds} → Quiet (top ∷ w) P (λ p. went (holdingNone A p)) (λ q. went (holdingNone B q))
     heldNone~ _ _ (near c h m fits r) = went~ (near c (c .token) m fits r)
 
-    extract~ : {w : World A B} {P : Holds} → Quiet w P (extractHoldingTrivia A source) (extractHoldingTrivia B source)
+    extract~ : {top : Node A B} {w : World A B} {P : Holds} → Quiet (top ∷ w) P (extractHoldingTrivia A source) (extractHoldingTrivia B source)
     unfolding extractHoldingTrivia
     extract~ _ _ (near c h m fits r) = bind~ (leavesFrom~ (c .token - h) h _ _ (near c h m fits r)) heldNone~
 
     -- ---- items without an item inside
 
-    text~ : {w : World A B} {P : Holds} → Quiet w P (text A source) (text B source)
+    text~ : {top : Node A B} {w : World A B} {P : Holds} → Quiet (top ∷ w) P (text A source) (text B source)
     unfolding text
     text~ _ _ h = from~ (start~ SyntaxKind.ItemText h ▸ eat~ ⨾ eatAll~ isTextComponent ⨾ finish~ ⨾ done~)
 
-    delimiterOf~ : (o : Option ℕ) {w : World A B} {P : Holds} → Quiet w P (delimiterOf A source o) (delimiterOf B source o)
+    delimiterOf~ : (o : Option ℕ) {top : Node A B} {w : World A B} {P : Holds} → Quiet (top ∷ w) P (delimiterOf A source o) (delimiterOf B source o)
     delimiterOf~ none _ _ h = went~ h
     delimiterOf~ (some kind) p q h =
         cond~ (eqb kind Token.Generic) (λ _. eatAs~ SyntaxKind.TokenCommandSym p q h)
@@ -163,19 +169,19 @@ module _ {A B : Builder} {Skip May : ℕ → Type 0} (Z : Sim A B Skip May) wher
         (λ _. cond~ (eqb kind Token.Dollar) (λ _. went~ h)
         (λ _. cond~ (eqb kind Token.Word) (λ _. singleChar~ p q h) (λ _. eat~ p q h))))
 
-    delimiter~ : {w : World A B} {P : Holds} → Quiet w P (delimiter A source) (delimiter B source)
+    delimiter~ : {top : Node A B} {w : World A B} {P : Holds} → Quiet (top ∷ w) P (delimiter A source) (delimiter B source)
     unfolding delimiter
     delimiter~ _ _ (near c h m fits r) = delimiterOf~ (peek (source .tokens) c) _ _ (near c h m fits r)
 
-    clauseLr~ : {w : World A B} {P : Holds} → Quiet w P (clauseLr A source) (clauseLr B source)
+    clauseLr~ : {top : Node A B} {w : World A B} {P : Holds} → Quiet (top ∷ w) P (clauseLr A source) (clauseLr B source)
     unfolding clauseLr
     clauseLr~ _ _ h = from~ (start~ SyntaxKind.ClauseLR h ▸ eat~ ⨾ trivia~ ⨾ delimiter~ ⨾ finish~ ⨾ done~)
 
-    dropNext~ : (reason : ℕ) {w : World A B} {P : Holds} → Quiet w P (dropNext A source reason) (dropNext B source reason)
+    dropNext~ : (reason : ℕ) {top : Node A B} {w : World A B} {P : Holds} → Quiet (top ∷ w) P (dropNext A source reason) (dropNext B source reason)
     unfolding dropNext
     dropNext~ reason _ _ (near c h m fits r) = went~ (near (eaten c) h m fits (Z .drops (c .token) reason r))
 
-    eatBodyOfIfs~ : (n nested : ℕ) {w : World A B} {P : Holds} → Quiet w P (eatBodyOfIfs A source n nested) (eatBodyOfIfs B source n nested)
+    eatBodyOfIfs~ : (n nested : ℕ) {top : Node A B} {w : World A B} {P : Holds} → Quiet (top ∷ w) P (eatBodyOfIfs A source n nested) (eatBodyOfIfs B source n nested)
     unfolding eatBodyOfIfs
     eatBodyOfIfs~ zero nested _ _ h = went~ h
     eatBodyOfIfs~ (suc n) nested _ _ (near c h m fits r) =
@@ -185,10 +191,10 @@ module _ {A B : Builder} {Skip May : ℕ → Type 0} (Z : Sim A B Skip May) wher
         (λ _. cond~ (sees isIf c) (λ _. bind~ (eat~ _ _ here) (eatBodyOfIfs~ n (nested + 1)))
         (λ _. cond~ (sees (λ kind. true) c) (λ _. bind~ (eat~ _ _ here) (eatBodyOfIfs~ n nested)) (λ _. went~ here)))
 
-    body~ : {w : World A B} {P : Holds} → Quiet w P (λ p. eatBodyOfIfs A source (turns A source p) 0 p) (λ q. eatBodyOfIfs B source (turns B source q) 0 q)
+    body~ : {top : Node A B} {w : World A B} {P : Holds} → Quiet (top ∷ w) P (λ p. eatBodyOfIfs A source (turns A source p) 0 p) (λ q. eatBodyOfIfs B source (turns B source q) 0 q)
     body~ _ _ (near c h m fits r) = eatBodyOfIfs~ _ 0 _ _ (near c h m fits r)
 
-    skippedBody~ : (kind : ℕ) {w : World A B} {P : Holds} → Quiet w P (skippedBody A source kind) (skippedBody B source kind)
+    skippedBody~ : (kind : ℕ) {top : Node A B} {w : World A B} {P : Holds} → Quiet (top ∷ w) P (skippedBody A source kind) (skippedBody B source kind)
     unfolding skippedBody
     skippedBody~ kind _ _ h = from~ (start~ kind h ▸ dropNext~ reasonOpener ⨾ body~ ⨾ finish~ ⨾ done~)
 
@@ -264,7 +270,7 @@ module _ {A B : Builder} {Skip May : ℕ → Type 0} (Z : Sim A B Skip May) wher
       unfolding itemList
       itemList~ scope _ _ (near c h m fits r) = from~ (went~ (fresh scope c h r) ▸ allItems~ (λ s. stops scope) ⨾ relist~ (λ s. m) (λ s. fits) ⨾ done~)
 
-      itemGroup~ : (scope : Scope) {w : World A B} {P : Holds} → Quiet w P (itemGroup A source i scope) (itemGroup B source j scope)
+      itemGroup~ : (scope : Scope) {top : Node A B} {w : World A B} {P : Holds} → Quiet (top ∷ w) P (itemGroup A source i scope) (itemGroup B source j scope)
       unfolding itemGroup
       itemGroup~ scope _ _ h = from~ (start~ (groupKind scope) h ▸ eat~ ⨾ itemList~ scope ⨾ eatIf~ (closer scope) ⨾ finish~ ⨾ done~)
 
@@ -281,7 +287,7 @@ module _ {A B : Builder} {Skip May : ℕ → Type 0} (Z : Sim A B Skip May) wher
           → Keeps Skip May (Near Z (node k live f g ∷ w) (Among [])) (Near Z (node k [] f g ∷ w) (Among [])) (piece A source i what) (piece B source j what)
       piece~ what {live} p q h = pieceIn~ what p q (forget~ (sub-nil live) h)
 
-      argument~ : (what : Piece) {w : World A B} → Quiet w (Among []) (argument A source i what) (argument B source j what)
+      argument~ : (what : Piece) {top : Node A B} {w : World A B} → Quiet (top ∷ w) (Among []) (argument A source i what) (argument B source j what)
       unfolding argument ignoreHoldingTrivia
       argument~ what {w} _ _ (near c h m {a} {b} among r) =
           let opened =
@@ -290,29 +296,29 @@ module _ {A B : Builder} {Skip May : ℕ → Type 0} (Z : Sim A B Skip May) wher
           (dropFrom-frame B source (Z .frame-right) (c .token - h) h b) in
           from~ (goes refl refl (opened ▸ piece~ what ⨾ finish~ ⨾ heldNone~ ⨾ done~))
 
-      module _ (more : Matcher → At A → Out (At A)) (more′ : Matcher → At B → Out (At B)) {w : World A B} (goesOn : (m : Matcher) → Quiet w (Among []) (more m) (more′ m)) where
-        chosen~ : (choice : Choice) (m : Matcher) → Quiet w (Among []) (chosen A source i more choice m) (chosen B source j more′ choice m)
+      module _ (more : Matcher → At A → Out (At A)) (more′ : Matcher → At B → Out (At B)) {top : Node A B} {w : World A B} (goesOn : (m : Matcher) → Quiet (top ∷ w) (Among []) (more m) (more′ m)) where
+        chosen~ : (choice : Choice) (m : Matcher) → Quiet (top ∷ w) (Among []) (chosen A source i more choice m) (chosen B source j more′ choice m)
         chosen~ ends m _ _ h = went~ h
         chosen~ holds m _ _ (near c h marks among r) = goesOn m _ _ (near (eaten c) h marks among r)
         chosen~ (takes what next) m p q h = bind~ (argument~ what p q h) (goesOn next)
 
-        choiceFor~ : (o : Option ℕ) (m : Matcher) → Quiet w (Among []) (λ p. chosen A source i more (choiceFor A source i o m p) m p) (λ q. chosen B source j more′ (choiceFor B source j o m q) m q)
+        choiceFor~ : (o : Option ℕ) (m : Matcher) → Quiet (top ∷ w) (Among []) (λ p. chosen A source i more (choiceFor A source i o m p) m p) (λ q. chosen B source j more′ (choiceFor B source j o m q) m q)
         choiceFor~ none m p q h = went~ h
         choiceFor~ (some kind) m _ _ (near c h marks among r) = chosen~ (choose (source .states) (marks .scope) m kind) m _ _ (near c h marks among r)
 
-      arguments~ : (n : ℕ) (m : Matcher) {w : World A B} → Quiet w (Among []) (arguments A source i n m) (arguments B source j n m)
+      arguments~ : (n : ℕ) (m : Matcher) {top : Node A B} {w : World A B} → Quiet (top ∷ w) (Among []) (arguments A source i n m) (arguments B source j n m)
       unfolding arguments
       arguments~ zero m _ _ h = went~ h
       arguments~ (suc n) m _ _ (near c h marks among r) = choiceFor~ (arguments A source i n) (arguments B source j n) (λ m. arguments~ n m) (peek (source .tokens) c) m _ _ (near c h marks among r)
 
-      allArguments~ : (m : Matcher) {w : World A B} → Quiet w (Among []) (λ p. arguments A source i (turns A source p) m p) (λ q. arguments B source j (turns B source q) m q)
+      allArguments~ : (m : Matcher) {top : Node A B} {w : World A B} → Quiet (top ∷ w) (Among []) (λ p. arguments A source i (turns A source p) m p) (λ q. arguments B source j (turns B source q) m q)
       allArguments~ m _ _ (near c h marks among r) = arguments~ _ m _ _ (near c h marks among r)
 
       -- behind arguments the start is as it was, and there is no last
       abbrev Around : Holds → Holds → Type 0
       Around P P′ = (m : Marks (A .Mark) (B .Mark)) → P m → (s : Scope) → P′ (record { scope = s; start = m .start; last = none })
 
-      matchArguments~ : (m : Matcher) {w : World A B} {P P′ : Holds} → Around P P′ → Keeps Skip May (Near Z w P) (Near Z w P′) (matchArguments A source i m) (matchArguments B source j m)
+      matchArguments~ : (m : Matcher) {top : Node A B} {w : World A B} {P P′ : Holds} → Around P P′ → Keeps Skip May (Near Z (top ∷ w) P) (Near Z (top ∷ w) P′) (matchArguments A source i m) (matchArguments B source j m)
       unfolding matchArguments
       matchArguments~ m around _ _ (near c h marks fits r) =
           from~ (went~ (near c (c .token) (record { scope = marks .scope; start = none; last = none }) nil r) ▸ allArguments~ m ⨾ relist~ (λ s. record { scope = s; start = marks .start; last = none }) (around marks fits) ⨾ done~)
@@ -321,16 +327,16 @@ module _ {A B : Builder} {Skip May : ℕ → Type 0} (Z : Sim A B Skip May) wher
           → Keeps Skip May (Near Z (node k live f g ∷ w) P) (Listing k f g w) (λ p. went (withMarks A (some (A .mark (p .built))) none p)) (λ q. went (withMarks B (some (B .mark (q .built))) none q))
       anew~ _ _ (near c h m fits r) = went~ (fresh (m .scope) c h r)
 
-      greedyArgument~ : {w : World A B} {P P′ : Holds} → Around P P′ → Keeps Skip May (Near Z w P) (Near Z w P′) (greedyArgument A source i) (greedyArgument B source j)
+      greedyArgument~ : {top : Node A B} {w : World A B} {P P′ : Holds} → Around P P′ → Keeps Skip May (Near Z (top ∷ w) P) (Near Z (top ∷ w) P′) (greedyArgument A source i) (greedyArgument B source j)
       unfolding greedyArgument
       greedyArgument~ {P} around _ _ (near c h marks fits r) =
           from~ (start~ SyntaxKind.ClauseArgument {P = P} (near c h marks fits r) ▸ anew~ ⨾ allItems~ greedyStops ⨾ relist~ (λ s. record { scope = s; start = marks .start; last = none }) (around marks fits) ⨾ finish~ ⨾ done~)
 
       -- ---- commands
 
-      commandNode~ : {rest : At A → Out (At A)} {rest′ : At B → Out (At B)} {live : Marked} {f : A .Frame} {g : B .Frame} {w : World A B} {P P′ : Holds}
-          → Keeps Skip May (Near Z (node SyntaxKind.ItemCmd live f g ∷ w) P) (Near Z (node SyntaxKind.ItemCmd live f g ∷ w) P′) rest rest′
-          → Keeps Skip May (Near Z (node SyntaxKind.ItemCmd live f g ∷ w) P) (Near Z w P′) (commandNode A source i rest f) (commandNode B source j rest′ g)
+      commandNode~ : {rest : At A → Out (At A)} {rest′ : At B → Out (At B)} {live : Marked} {f : A .Frame} {g : B .Frame} {top : Node A B} {w : World A B} {P P′ : Holds}
+          → Keeps Skip May (Near Z (node SyntaxKind.ItemCmd live f g ∷ top ∷ w) P) (Near Z (node SyntaxKind.ItemCmd live f g ∷ top ∷ w) P′) rest rest′
+          → Keeps Skip May (Near Z (node SyntaxKind.ItemCmd live f g ∷ top ∷ w) P) (Near Z (top ∷ w) P′) (commandNode A source i rest f) (commandNode B source j rest′ g)
       unfolding commandNode
       commandNode~ k = steps~ (eat~ ⨾ k ⨾ finish~ ⨾ done~)
 
@@ -368,31 +374,31 @@ module _ {A B : Builder} {Skip May : ℕ → Type 0} (Z : Sim A B Skip May) wher
 
       -- ---- environments, left-right bodies, scripts
 
-      environmentArguments~ : (s : Shape) (l : Marked) {w : World A B} → Quiet w (Among l) (environmentArguments A source i s) (environmentArguments B source j s)
+      environmentArguments~ : (s : Shape) (l : Marked) {top : Node A B} {w : World A B} → Quiet (top ∷ w) (Among l) (environmentArguments A source i s) (environmentArguments B source j s)
       unfolding environmentArguments
       environmentArguments~ s l _ _ (near c h m among r) =
           let here = near c h m among r in
           cond~ (nameOnly s) (λ _. heldNone~ _ _ here)
           (λ _. cond~ (isGreedy (startMatch (s .form) (s .value))) (λ _. refused~ greedyEnvironment (c .token) (Z .greedy)) (λ _. matchArguments~ _ (around-among l) _ _ here))
 
-      beginClause~ : (l : Marked) {w : World A B} → Quiet w (Among l) (beginClause A source i) (beginClause B source j)
+      beginClause~ : (l : Marked) {top : Node A B} {w : World A B} → Quiet (top ∷ w) (Among l) (beginClause A source i) (beginClause B source j)
       unfolding beginClause
       beginClause~ l _ _ (near c h m among r) =
           from~ (start~ SyntaxKind.ItemBegin {P = Among l} (near c h m among r) ▸ eat~ ⨾ environmentArguments~ (ofClass classEnvironment (source .shape (c .token))) l ⨾ finish~ ⨾ extract~ ⨾ done~)
 
-      endClause~ : {w : World A B} {P : Holds} → Quiet w P (endClause A source i) (endClause B source j)
+      endClause~ : {top : Node A B} {w : World A B} {P : Holds} → Quiet (top ∷ w) P (endClause A source i) (endClause B source j)
       unfolding endClause
       endClause~ _ _ (near c h m fits r) = cond~ (sees (eqb Token.EndEnvironment) c) (λ _. oneIn~ SyntaxKind.ItemEnd _ _ (near c h m fits r)) (λ _. went~ (near c h m fits r))
 
-      environmentItem~ : (l : Marked) {w : World A B} → Quiet w (Among l) (environmentItem A source i) (environmentItem B source j)
+      environmentItem~ : (l : Marked) {top : Node A B} {w : World A B} → Quiet (top ∷ w) (Among l) (environmentItem A source i) (environmentItem B source j)
       unfolding environmentItem
       environmentItem~ l _ _ h = from~ (start~ SyntaxKind.ItemEnv h ▸ beginClause~ l ⨾ itemList~ Scope.Environment ⨾ endClause~ ⨾ finish~ ⨾ done~)
 
-      rightClause~ : {w : World A B} {P : Holds} → Quiet w P (rightClause A source i) (rightClause B source j)
+      rightClause~ : {top : Node A B} {w : World A B} {P : Holds} → Quiet (top ∷ w) P (rightClause A source i) (rightClause B source j)
       unfolding rightClause
       rightClause~ _ _ (near c h m fits r) = cond~ (sees (eqb Token.Right) c) (λ _. clauseLr~ _ _ (near c h m fits r)) (λ _. went~ (near c h m fits r))
 
-      itemLr~ : {w : World A B} {P : Holds} → Quiet w P (itemLr A source i) (itemLr B source j)
+      itemLr~ : {top : Node A B} {w : World A B} {P : Holds} → Quiet (top ∷ w) P (itemLr A source i) (itemLr B source j)
       unfolding itemLr
       itemLr~ _ _ h = from~ (start~ SyntaxKind.ItemLR h ▸ clauseLr~ ⨾ itemList~ Scope.LR ⨾ rightClause~ ⨾ finish~ ⨾ done~)
 
@@ -402,8 +408,8 @@ module _ {A B : Builder} {Skip May : ℕ → Type 0} (Z : Sim A B Skip May) wher
       script~ true l {k} {f} {g} {w} p q h = steps~ (trivia~ ⨾ (λ p q h. weaker~ (λ p q. settled) (inner true [] l k f g w p q h)) ⨾ done~) p q h
       script~ false l p q h = went~ (forget~ (sub-nil l) h)
 
-      attachmentNode~ : (hasScript : Bool) (l : Marked) {f : A .Frame} {g : B .Frame} {w : World A B}
-          → Keeps Skip May (Near Z (node SyntaxKind.ItemAttachComponent l f g ∷ w) (Among l)) (Near Z w (Among l)) (attachmentNode A source i hasScript f) (attachmentNode B source j hasScript g)
+      attachmentNode~ : (hasScript : Bool) (l : Marked) {f : A .Frame} {g : B .Frame} {top : Node A B} {w : World A B}
+          → Keeps Skip May (Near Z (node SyntaxKind.ItemAttachComponent l f g ∷ top ∷ w) (Among l)) (Near Z (top ∷ w) (Among l)) (attachmentNode A source i hasScript f) (attachmentNode B source j hasScript g)
       unfolding attachmentNode
       attachmentNode~ hasScript l = steps~ (eat~ ⨾ script~ hasScript l ⨾ finish~ ⨾ done~)
 
@@ -488,7 +494,13 @@ module _ {A B : Builder} {Skip May : ℕ → Type 0} (Z : Sim A B Skip May) wher
     contentAt~ zero = λ single front l k f g w p q h. tooDeep~ h
     contentAt~ (suc d) = content~ (contentAt~ d)
 
-    -- related builders at the start: related runs, to positions outside all lists
-    pub simulation : {a : A .State} {b : B .State} → Z .R [] a b → OutRel Skip May (Near Z [] (λ m. m ≡ record { scope = Scope.Root; start = none; last = none })) (parse A source a) (parse B source b)
+    abbrev AtRoot : Holds
+    AtRoot m = m ≡ record { scope = Scope.Root; start = none; last = none }
+
+    ended~ : {live : Marked} {f : A .Frame} {g : B .Frame} → Keeps Skip May (Near Z (node SyntaxKind.ScopeRoot live f g ∷ []) AtRoot) (Ended Z) (finish A SyntaxKind.ScopeRoot f) (finish B SyntaxKind.ScopeRoot g)
+    ended~ _ _ (near c h m fits r) = rw fits (bind~ (Z .ends (c .token) r) (λ a b whole. went~ (ended c h whole)))
+
+    -- related builders at the start: related runs
+    pub simulation : {a : A .State} {b : B .State} → Z .R [] a b → OutRel Skip May (Ended Z) (parse A source a) (parse B source b)
     unfolding parse
-    simulation r = from~ (start~ SyntaxKind.ScopeRoot (near atStart 0 (record { scope = Scope.Root; start = none; last = none }) refl r) ▸ itemList~ (contentAt~ Limits.nodes) Scope.Root ⨾ finish~ ⨾ done~)
+    simulation r = from~ (start~ SyntaxKind.ScopeRoot (near atStart 0 (record { scope = Scope.Root; start = none; last = none }) refl r) ▸ itemList~ (contentAt~ Limits.nodes) Scope.Root ⨾ ended~ ⨾ done~)
