@@ -4,6 +4,7 @@ pub mod Characters
 pub mod Flat
 pub mod Related
 pub mod Render
+pub mod Room
 pub mod Sim
 pub mod Simulation
 pub mod Table
