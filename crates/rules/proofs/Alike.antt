@@ -24,7 +24,7 @@ use Rattle.rules.specs.SyntaxKind.{ScopeRoot}
 use Rattle.rules.specs.Tree.{Tree, Forest, leaf, layout, layouts, forest, nodeOf}
 use Rattle.rules.proofs.Related.{OutRel, went~, refused~}
 use Rattle.rules.proofs.Render.{laid, render, render-split, render-more, render-open, render-close, render-first}
-use Rattle.rules.proofs.Sim.{Sub, nil, keep, omit, World, Node, node, innermost, Sim}
+use Rattle.rules.proofs.Sim.{Sub, nil, keep, omit, Node, Level, World, node, _◂_, innermost, Sim}
 use Rattle.rules.proofs.Simulation.{Ended, ended, simulation}
 
 -- the numbers of refusal that come while reading
@@ -94,7 +94,7 @@ module _ (room : ℕ) where
         → f .node * treeWidth ≡ length (render ps (take first cs))
         → Falling (record { kind = k; first = first } ∷ ps) cs (length cs) live
         → Levels w ps (take first cs) left
-        → Levels (node k live left tt ∷ w) (record { kind = k; first = first } ∷ ps) cs f
+        → Levels (node k left tt ◂ live ∷ w) (record { kind = k; first = first } ∷ ps) cs f
 
   data Alike : Over → Built → Green → Type 0 where
     alike : {w : Over} {t : Rows} {ps : List Parent} {cs : List Tree} {dropped : List ℕ}
@@ -127,13 +127,13 @@ module _ (room : ℕ) where
   low (outside e) = omega arith
   low (inside is high begins falling levels) = high
 
-  levels-more : {top : Node (flat room) (rowan room)} {w : Over} {ps : List Parent} {cs : List Tree} {f : Frame} (x : Tree) → Levels (top ∷ w) ps cs f → Levels (top ∷ w) ps (cs ++ (x ∷ [])) f
+  levels-more : {top : Level (flat room) (rowan room)} {w : Over} {ps : List Parent} {cs : List Tree} {f : Frame} (x : Tree) → Levels (top ∷ w) ps cs f → Levels (top ∷ w) ps (cs ++ (x ∷ [])) f
   levels-more {cs} x (inside {first} is high begins falling levels) =
       let same : take first cs ≡ take first (cs ++ (x ∷ [])) = sym (take-append-le first cs (x ∷ []) high) in
       let wider : length cs ≤ length (cs ++ (x ∷ [])) = simp length-append (omega arith) in
       inside is (le-trans high wider) (rw same at begins) (falling-as (cs ++ (x ∷ [])) (length (cs ++ (x ∷ []))) (λ n h. take-append-le n cs (x ∷ []) h) wider falling) (rw same at levels)
 
-  leafs : (place : ℕ) (l : Leaf) {top : Node (flat room) (rowan room)} {w : Over} {a : Built} {b : Green} → Alike (top ∷ w) a b → O (Alike (top ∷ w)) (flat room .leaf place l a) (rowan room .leaf place l b)
+  leafs : (place : ℕ) (l : Leaf) {top : Level (flat room) (rowan room)} {w : Over} {a : Built} {b : Green} → Alike (top ∷ w) a b → O (Alike (top ∷ w)) (flat room .leaf place l a) (rowan room .leaf place l b)
   unfolding Flat.leaf Flat.leafed Rowan.token layout
   leafs place l (alike {t} {ps} {cs} tied levels) =
       let x = leaf (l .kind) (l .start) (l .size) in
@@ -151,7 +151,7 @@ module _ (room : ℕ) where
   carried p e (outside none) = lowest
   carried p e (inside is high begins falling levels) = falling-below p _ (omega arith) falling
 
-  starts : (place kind : ℕ) {w : Over} {a : Built} {b : Green} → Alike w a b → O (Alike (node kind (innermost w) (frameOf (a .tree)) tt ∷ w)) (flat room .start place kind a) (rowan room .start place kind b)
+  starts : (place kind : ℕ) {w : Over} {a : Built} {b : Green} → Alike w a b → O (Alike (node kind (frameOf (a .tree)) tt ◂ innermost w ∷ w)) (flat room .start place kind a) (rowan room .start place kind b)
   unfolding Flat.start Flat.started Rowan.startNode Rowan.pushed
   starts place kind (alike {t} {ps} {cs} tied levels) =
       let p : Parent = record { kind = kind; first = length cs } in
@@ -165,10 +165,10 @@ module _ (room : ℕ) where
       })
       (inside (tied .children) (le-refl (length cs)) (next-row tied) (carried p refl levels) (rw (take-length cs) levels))))))
 
-  finishes : (place : ℕ) (n : Node (flat room) (rowan room)) {top : Node (flat room) (rowan room)} {w : Over} {a : Built} {b : Green} → Alike (n ∷ top ∷ w) a b
+  finishes : (place : ℕ) {n : Node (flat room) (rowan room)} {live : List (Mark × ℕ)} {top : Level (flat room) (rowan room)} {w : Over} {a : Built} {b : Green} → Alike (n ◂ live ∷ top ∷ w) a b
       → O (Alike (top ∷ w)) (flat room .finish place (n .kind) (n .left) a) (rowan room .finish place (n .kind) (n .right) b)
   unfolding Flat.finish Flat.finished Rowan.finishNode
-  finishes place n (alike {t} {cs} tied (inside {k} {first} {ps} is high begins falling levels)) =
+  finishes place (alike {t} {cs} tied (inside {k} {first} {ps} is high begins falling levels)) =
       let p : Parent = record { kind = k; first = first } in
       let long : length (take first cs) ≡ first = length-take-le first cs high in
       let depth = tied .depth in
@@ -181,7 +181,7 @@ module _ (room : ℕ) where
       })
       (levels-more (nodeOf k (drop first cs)) levels))))
 
-  ends : (place : ℕ) {live : List (Mark × ℕ)} {f : Frame} {g : Unit {0}} {a : Built} {b : Green} → Alike (node ScopeRoot live f g ∷ []) a b → O Whole (flat room .finish place ScopeRoot f a) (rowan room .finish place ScopeRoot g b)
+  ends : (place : ℕ) {f : Frame} {g : Unit {0}} {live : List (Mark × ℕ)} {a : Built} {b : Green} → Alike (node ScopeRoot f g ◂ live ∷ []) a b → O Whole (flat room .finish place ScopeRoot f a) (rowan room .finish place ScopeRoot g b)
   unfolding Flat.finish Flat.finished Rowan.finishNode layout
   ends place (alike {t} {cs} tied (inside {first} is high begins falling (outside none))) =
       onTree~ _ (room~ place (ltb (t .rows) (room / treeWidth)) (went~ (record {
@@ -195,11 +195,11 @@ module _ (room : ℕ) where
         dropped = refl;
       })))
 
-  marks : {k : ℕ} {live : List (Mark × ℕ)} {f : Frame} {g : Unit {0}} {w : Over} {a : Built} {b : Green} → Alike (node k live f g ∷ w) a b → Alike (node k ((markOf (a .tree), length (b .children)) ∷ live) f g ∷ w) a b
+  marks : {n : Node (flat room) (rowan room)} {live : List (Mark × ℕ)} {w : Over} {a : Built} {b : Green} → Alike (n ◂ live ∷ w) a b → Alike (n ◂ ((markOf (a .tree), length (b .children)) ∷ live) ∷ w) a b
   marks (alike {t} {cs} tied (inside is high begins falling levels)) =
       alike tied (inside is high begins (falls (tied .children) (le-refl (length cs)) (λ past. next-row tied) falling) levels)
 
-  forgets : {k : ℕ} {less live : List (Mark × ℕ)} {f : Frame} {g : Unit {0}} {w : Over} {a : Built} {b : Green} → Sub less live → Alike (node k live f g ∷ w) a b → Alike (node k less f g ∷ w) a b
+  forgets : {n : Node (flat room) (rowan room)} {less live : List (Mark × ℕ)} {w : Over} {a : Built} {b : Green} → Sub less live → Alike (n ◂ live ∷ w) a b → Alike (n ◂ less ∷ w) a b
   forgets sub (alike tied (inside is high begins falling levels)) = alike tied (inside is high begins (falling-sub sub falling) levels)
 
   drops : (token reason : ℕ) {w : Over} {a : Built} {b : Green} → Alike w a b → Alike w (flat room .drop token reason a) (rowan room .drop token reason b)
@@ -232,7 +232,7 @@ module _ (room : ℕ) where
   around : {k first n : ℕ} {m : Mark} {older : List (Mark × ℕ)} {left f : Frame} {w : Over} {ps : List Parent} {cs : List Tree} → first ≤ n → n ≤ length cs → f .first ≡ first → f .node * treeWidth ≡ length (render ps (take first cs))
       → Falling (record { kind = k; first = first } ∷ ps) cs n ((m, n) ∷ older)
       → Levels w ps (take first cs) left
-      → Levels (node k ((m, n) ∷ older) left tt ∷ w) (record { kind = k; first = first } ∷ ps) (take n cs) f
+      → Levels (node k left tt ◂ ((m, n) ∷ older) ∷ w) (record { kind = k; first = first } ∷ ps) (take n cs) f
   around {first} {n} {cs} lower high is begins falling levels =
       let long : length (take n cs) ≡ n = length-take-le n cs high in
       let same : take first cs ≡ take first (take n cs) = sym (take-take first n cs lower) in
@@ -246,7 +246,7 @@ module _ (room : ℕ) where
       → (first < n → m .row * treeWidth ≡ length (render (record { kind = k; first = first } ∷ ps) (take n cs)))
       → Falling (record { kind = k; first = first } ∷ ps) cs n older
       → Levels w ps (take first cs) left
-      → Alike (node kind ((m, n) ∷ older) (frameOf t) tt ∷ node k ((m, n) ∷ older) left tt ∷ w) (record { tree = Flat.startedAt kind m t; dropped = dropped })
+      → Alike (node kind (frameOf t) tt ◂ ((m, n) ∷ older) ∷ node k left tt ◂ ((m, n) ∷ older) ∷ w) (record { tree = Flat.startedAt kind m t; dropped = dropped })
       (record { parents = record { kind = kind; first = n } ∷ record { kind = k; first = first } ∷ ps; children = cs; rows = t .rows + 1; leaves = t .leaves; dropped = dropped })
   unfolding Flat.startedAt Flat.startAtRow
   opened kind {k} {first} {n} {m} {older} {t} {ps} {cs} tied lower high count is begins row falling levels =
@@ -267,8 +267,8 @@ module _ (room : ℕ) where
       })
       (inside count high at (falling-as cs (length cs) (λ i below. refl) high (falling-below (record { kind = kind; first = n }) (p ∷ ps) (le-refl n) own)) (around lower high is begins own levels))
 
-  startAts : (place kind : ℕ) {k : ℕ} {x : Mark × ℕ} {older : List (Mark × ℕ)} {f : Frame} {g : Unit {0}} {w : Over} {a : Built} {b : Green} → Alike (node k (x ∷ older) f g ∷ w) a b
-      → O (Alike (node kind (x ∷ older) (frameOf (a .tree)) tt ∷ node k (x ∷ older) f g ∷ w)) (flat room .startAt place kind (x .0) a) (rowan room .startAt place kind (x .1) b)
+  startAts : (place kind : ℕ) {n : Node (flat room) (rowan room)} {x : Mark × ℕ} {older : List (Mark × ℕ)} {w : Over} {a : Built} {b : Green} → Alike (n ◂ (x ∷ older) ∷ w) a b
+      → O (Alike (node kind (frameOf (a .tree)) tt ◂ (x ∷ older) ∷ n ◂ (x ∷ older) ∷ w)) (flat room .startAt place kind (x .0) a) (rowan room .startAt place kind (x .1) b)
   unfolding Flat.startAt Rowan.startNodeAt Rowan.pushed Flat.startedAt
   startAts place kind (alike {t} {cs} tied (inside {first} {ps} is high begins (falls {m} {n} count below row falling) levels)) =
       rw (le-ltb (length cs) n below)

@@ -18,7 +18,7 @@ use Rattle.rules.specs.Reading.{parse}
 use Rattle.rules.specs.Scope.{Root}
 use Rattle.rules.specs.SyntaxKind.{ScopeRoot}
 use Rattle.rules.proofs.Related.{OutRel, went~, refused~, skipped~, cond~, weaker~}
-use Rattle.rules.proofs.Sim.{Sub, nil, keep, omit, World, Node, node, innermost, Sim}
+use Rattle.rules.proofs.Sim.{Sub, nil, keep, omit, Node, Level, World, node, _◂_, innermost, Sim}
 use Rattle.rules.proofs.Simulation.{Ended, ended, simulation}
 
 -- the smaller room may be too small
@@ -43,7 +43,7 @@ module _ (room room′ : ℕ) (larger : room ≤ room′) where
 
   data Even : Over → Type 0 where
     outside : Even []
-    inside : {k : ℕ} {live : List (Mark × Mark)} {f : Frame} {w : Over} → Pairs live → Even w → Even (node k live f f ∷ w)
+    inside : {k : ℕ} {live : List (Mark × Mark)} {f : Frame} {w : Over} → Pairs live → Even w → Even (node k f f ◂ live ∷ w)
 
   data Same : Over → Built → Built → Type 0 where
     same : {w : Over} {b : Built} → Even w → Same w b b
@@ -73,7 +73,7 @@ module _ (room room′ : ℕ) (larger : room ≤ room′) where
 
   -- ---- the operations
 
-  leafs : (place : ℕ) (l : Leaf) {top : Node (flat room) (flat room′)} {w : Over} {a b : Built} → Same (top ∷ w) a b → O (Same (top ∷ w)) (flat room .leaf place l a) (flat room′ .leaf place l b)
+  leafs : (place : ℕ) (l : Leaf) {top : Level (flat room) (flat room′)} {w : Over} {a b : Built} → Same (top ∷ w) a b → O (Same (top ∷ w)) (flat room .leaf place l a) (flat room′ .leaf place l b)
   unfolding Flat.leaf
   leafs place l (same {b} even) = onTree~ b (room~ place (b .tree .rows) (went~ (same even)))
 
@@ -81,12 +81,12 @@ module _ (room room′ : ℕ) (larger : room ≤ room′) where
   carried outside = no-marks
   carried (inside pairs even) = pairs
 
-  starts : (place kind : ℕ) {w : Over} {a b : Built} → Same w a b → O (Same (node kind (innermost w) (frameOf (a .tree)) (frameOf (b .tree)) ∷ w)) (flat room .start place kind a) (flat room′ .start place kind b)
+  starts : (place kind : ℕ) {w : Over} {a b : Built} → Same w a b → O (Same (node kind (frameOf (a .tree)) (frameOf (b .tree)) ◂ innermost w ∷ w)) (flat room .start place kind a) (flat room′ .start place kind b)
   unfolding Flat.start
   starts place kind (same {b} even) = onTree~ b (gate~ tooManyOpen place (leb nodes (b .tree .depth)) (room~ place (b .tree .rows) (went~ (same (inside (carried even) even)))))
 
-  startAts : (place kind : ℕ) {k : ℕ} {x : Mark × Mark} {older : List (Mark × Mark)} {f g : Frame} {w : Over} {a b : Built} → Same (node k (x ∷ older) f g ∷ w) a b
-      → O (Same (node kind (x ∷ older) (frameOf (a .tree)) (frameOf (b .tree)) ∷ node k (x ∷ older) f g ∷ w)) (flat room .startAt place kind (x .0) a) (flat room′ .startAt place kind (x .1) b)
+  startAts : (place kind : ℕ) {n : Node (flat room) (flat room′)} {x : Mark × Mark} {older : List (Mark × Mark)} {w : Over} {a b : Built} → Same (n ◂ (x ∷ older) ∷ w) a b
+      → O (Same (node kind (frameOf (a .tree)) (frameOf (b .tree)) ◂ (x ∷ older) ∷ n ◂ (x ∷ older) ∷ w)) (flat room .startAt place kind (x .0) a) (flat room′ .startAt place kind (x .1) b)
   unfolding Flat.startAt
   startAts place kind (same {b} (inside (both m pairs) even)) =
       onTree~ b
@@ -94,19 +94,19 @@ module _ (room room′ : ℕ) (larger : room ≤ room′) where
       (gate~ tooManyOpen place (leb nodes (b .tree .depth))
       (room~ place (b .tree .rows) (went~ (same (inside (both m pairs) (inside (both m pairs) even)))))))
 
-  finishes : (place : ℕ) (n : Node (flat room) (flat room′)) {top : Node (flat room) (flat room′)} {w : Over} {a b : Built} → Same (n ∷ top ∷ w) a b
+  finishes : (place : ℕ) {n : Node (flat room) (flat room′)} {live : List (Mark × Mark)} {top : Level (flat room) (flat room′)} {w : Over} {a b : Built} → Same (n ◂ live ∷ top ∷ w) a b
       → O (Same (top ∷ w)) (flat room .finish place (n .kind) (n .left) a) (flat room′ .finish place (n .kind) (n .right) b)
   unfolding Flat.finish
-  finishes place n (same {b} (inside pairs even)) = onTree~ b (room~ place (b .tree .rows) (went~ (same even)))
+  finishes place (same {b} (inside pairs even)) = onTree~ b (room~ place (b .tree .rows) (went~ (same even)))
 
-  ends : (place : ℕ) {live : List (Mark × Mark)} {f g : Frame} {a b : Built} → Same (node ScopeRoot live f g ∷ []) a b → O (λ (a b : Built). a ≡ b) (flat room .finish place ScopeRoot f a) (flat room′ .finish place ScopeRoot g b)
+  ends : (place : ℕ) {f g : Frame} {live : List (Mark × Mark)} {a b : Built} → Same (node ScopeRoot f g ◂ live ∷ []) a b → O (λ (a b : Built). a ≡ b) (flat room .finish place ScopeRoot f a) (flat room′ .finish place ScopeRoot g b)
   unfolding Flat.finish
   ends place (same {b} (inside pairs even)) = onTree~ b (room~ place (b .tree .rows) (went~ refl))
 
-  marks : {k : ℕ} {live : List (Mark × Mark)} {f g : Frame} {w : Over} {a b : Built} → Same (node k live f g ∷ w) a b → Same (node k ((markOf (a .tree), markOf (b .tree)) ∷ live) f g ∷ w) a b
+  marks : {n : Node (flat room) (flat room′)} {live : List (Mark × Mark)} {w : Over} {a b : Built} → Same (n ◂ live ∷ w) a b → Same (n ◂ ((markOf (a .tree), markOf (b .tree)) ∷ live) ∷ w) a b
   marks (same {b} (inside pairs even)) = same (inside (both (markOf (b .tree)) pairs) even)
 
-  forgets : {k : ℕ} {less live : List (Mark × Mark)} {f g : Frame} {w : Over} {a b : Built} → Sub less live → Same (node k live f g ∷ w) a b → Same (node k less f g ∷ w) a b
+  forgets : {n : Node (flat room) (flat room′)} {less live : List (Mark × Mark)} {w : Over} {a b : Built} → Sub less live → Same (n ◂ live ∷ w) a b → Same (n ◂ less ∷ w) a b
   forgets sub (same (inside pairs even)) = same (inside (pairs-sub sub pairs) even)
 
   drops : (token reason : ℕ) {w : Over} {a b : Built} → Same w a b → Same w (flat room .drop token reason a) (flat room′ .drop token reason b)

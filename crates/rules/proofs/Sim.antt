@@ -7,7 +7,8 @@ use mathlib.Core.List.{List, [], _∷_, _++_}
 use mathlib.Core.Option.{Option, none, some}
 use Rattle.rules.specs.Builder.{Builder, Leaf}
 use Rattle.rules.specs.Outcome.{greedyEnvironment, tooManyOpen}
-use Rattle.rules.specs.Position.{ListState}
+use Rattle.rules.specs.Cursor.{Cursor}
+use Rattle.rules.specs.Position.{ListState, Pos}
 use Rattle.rules.specs.Scope.{Scope}
 use Rattle.rules.specs.SyntaxKind.{ScopeRoot}
 use Rattle.rules.proofs.Related.{OutRel}
@@ -73,60 +74,77 @@ module _ {M N : Type 0} where
   abbrev pub Among : List (M × N) → Marks M N → Type 0
   Among l m = Sub (marksOf m) l
 
+-- where both sides stand: at the same token, holding the same tokens
+module _ {M N : Type 0} where
+  abbrev pub leftAt : {S : Type 0} → Cursor → ℕ → Marks M N → S → Pos S M
+  leftAt c h m a = record { lexer = c; held = h; list = leftList m; built = a }
+
+  abbrev pub rightAt : {S : Type 0} → Cursor → ℕ → Marks M N → S → Pos S N
+  rightAt c h m b = record { lexer = c; held = h; list = rightList m; built = b }
+
 -- ---- the world
 
--- an open node: its kind, the marks that may still be used in it, newest first, and the frames that its end takes
+-- an open node: its kind, and the frames that its end takes
 pub record Node (A B : Builder) : Type 0 where
   pub kind : ℕ
-  pub live : List (A .Mark × B .Mark)
   pub left : A .Frame
   pub right : B .Frame
 
+-- with the marks that may still be used in it, newest first
+pub record Level (A B : Builder) : Type 0 where
+  pub node : Node A B
+  pub live : List (A .Mark × B .Mark)
+
 -- the open nodes, innermost first
 abbrev pub World : Builder → Builder → Type 0
-World A B = List (Node A B)
+World A B = List (Level A B)
 
 module _ {A B : Builder} where
-  abbrev pub node : ℕ → List (A .Mark × B .Mark) → A .Frame → B .Frame → Node A B
-  node kind live f g = record { kind = kind; live = live; left = f; right = g }
+  abbrev pub node : ℕ → A .Frame → B .Frame → Node A B
+  node kind f g = record { kind = kind; left = f; right = g }
+
+  abbrev pub _◂_ : Node A B → List (A .Mark × B .Mark) → Level A B
+  _◂_ n live = record { node = n; live = live }
 
   abbrev pub innermost : World A B → List (A .Mark × B .Mark)
   innermost [] = []
-  innermost (n ∷ w) = n .live
+  innermost (top ∷ w) = top .live
+
+infixl 75 _◂_
+-- a node that is opened where both sides stand
+abbrev pub opening : (A B : Builder) → ℕ → A .State → B .State → Node A B
+opening A B kind a b = node kind (A .frame a) (B .frame b)
 
 -- what makes B stand for A
 pub record Sim (A B : Builder) (Skip May : ℕ → Type 0) : Type 1 where
   pub R : World A B → A .State → B .State → Type 0
   -- a mark made now may be used from now on; to forget marks is always right
-  pub marks : {k : ℕ} {live : List (A .Mark × B .Mark)} {f : A .Frame} {g : B .Frame} {w : World A B} {a : A .State} {b : B .State}
-      → R (node k live f g ∷ w) a b
-      → R (node k ((A .mark a, B .mark b) ∷ live) f g ∷ w) a b
-  pub forgets : {k : ℕ} {less live : List (A .Mark × B .Mark)} {f : A .Frame} {g : B .Frame} {w : World A B} {a : A .State} {b : B .State}
-      → Sub less live
-      → R (node k live f g ∷ w) a b
-      → R (node k less f g ∷ w) a b
+  pub marks : {n : Node A B} {live : List (A .Mark × B .Mark)} {w : World A B} {a : A .State} {b : B .State} → R (n ◂ live ∷ w) a b → R (n ◂ ((A .mark a, B .mark b) ∷ live) ∷ w) a b
+  pub forgets : {n : Node A B} {less live : List (A .Mark × B .Mark)} {w : World A B} {a : A .State} {b : B .State} → Sub less live → R (n ◂ live ∷ w) a b → R (n ◂ less ∷ w) a b
   pub leafs :
-      (place : ℕ) (l : Leaf) {top : Node A B} {w : World A B} {a : A .State} {b : B .State}
+      (place : ℕ) (l : Leaf) {top : Level A B} {w : World A B} {a : A .State} {b : B .State}
       → R (top ∷ w) a b
       → OutRel Skip May (R (top ∷ w)) (A .leaf place l a) (B .leaf place l b)
   -- marks that were made before a node was opened may be used in it
-  pub starts : (place kind : ℕ) {w : World A B} {a : A .State} {b : B .State}
+  pub starts :
+      (place kind : ℕ) {w : World A B} {a : A .State} {b : B .State}
       → R w a b
-      → OutRel Skip May (R (node kind (innermost w) (A .frame a) (B .frame b) ∷ w)) (A .start place kind a) (B .start place kind b)
+      → OutRel Skip May (R (opening A B kind a b ◂ innermost w ∷ w)) (A .start place kind a) (B .start place kind b)
   -- a node is opened at the newest mark: that one and those before it may still be used, inside and outside
-  pub startAts : (place kind : ℕ) {k : ℕ} {x : A .Mark × B .Mark} {older : List (A .Mark × B .Mark)} {f : A .Frame} {g : B .Frame} {w : World A B} {a : A .State} {b : B .State}
-      → R (node k (x ∷ older) f g ∷ w) a b
-      → OutRel Skip May (R (node kind (x ∷ older) (A .frame a) (B .frame b) ∷ node k (x ∷ older) f g ∷ w)) (A .startAt place kind (x .0) a) (B .startAt place kind (x .1) b)
+  pub startAts :
+      (place kind : ℕ) {n : Node A B} {x : A .Mark × B .Mark} {older : List (A .Mark × B .Mark)} {w : World A B} {a : A .State} {b : B .State}
+      → R (n ◂ (x ∷ older) ∷ w) a b
+      → OutRel Skip May (R (opening A B kind a b ◂ (x ∷ older) ∷ n ◂ (x ∷ older) ∷ w)) (A .startAt place kind (x .0) a) (B .startAt place kind (x .1) b)
   -- a node's end takes its kind and its frames, and leaves the world as it was before it
   pub finishes :
-      (place : ℕ) (n : Node A B) {top : Node A B} {w : World A B} {a : A .State} {b : B .State}
-      → R (n ∷ top ∷ w) a b
+      (place : ℕ) {n : Node A B} {live : List (A .Mark × B .Mark)} {top : Level A B} {w : World A B} {a : A .State} {b : B .State}
+      → R (n ◂ live ∷ top ∷ w) a b
       → OutRel Skip May (R (top ∷ w)) (A .finish place (n .kind) (n .left) a) (B .finish place (n .kind) (n .right) b)
   -- and the root's end is the end
   pub Whole : A .State → B .State → Type 0
   pub ends :
-      (place : ℕ) {live : List (A .Mark × B .Mark)} {f : A .Frame} {g : B .Frame} {a : A .State} {b : B .State}
-      → R (node ScopeRoot live f g ∷ []) a b
+      (place : ℕ) {f : A .Frame} {g : B .Frame} {live : List (A .Mark × B .Mark)} {a : A .State} {b : B .State}
+      → R (node ScopeRoot f g ◂ live ∷ []) a b
       → OutRel Skip May Whole (A .finish place ScopeRoot f a) (B .finish place ScopeRoot g b)
   pub drops : (token reason : ℕ) {w : World A B} {a : A .State} {b : B .State} → R w a b → R w (A .drop token reason a) (B .drop token reason b)
   -- what is dropped does not touch a node

@@ -23,7 +23,7 @@ use Rattle.rules.specs.SyntaxKind
 use Rattle.rules.specs.Tables.{kindAt, tokenCount}
 use Rattle.rules.specs.Token
 use Rattle.rules.proofs.Related.{OutRel, went~, refused~, Keeps, done~, _⨾_, goes, _▸_, bind~, weaker~, cond~, steps~, from~}
-use Rattle.rules.proofs.Sim.{Sub, nil, keep, sub-nil, sub-refl, sub-behind, sub-trans, lefts, rights, listed, Marks, leftList, rightList, Among, Node, World, node, innermost, Sim}
+use Rattle.rules.proofs.Sim.{Sub, nil, keep, sub-nil, sub-refl, sub-behind, sub-trans, lefts, rights, listed, Marks, leftList, rightList, leftAt, rightAt, Among, Node, Level, World, node, _◂_, innermost, opening, Sim}
 
 -- held trivia that are dropped do not touch a node
 dropFrom-frame : (C : Builder) (source : Source) → ((token reason : ℕ) (c : C .State) → C .frame (C .drop token reason c) ≡ C .frame c)
@@ -38,7 +38,7 @@ pub data Near {A B : Builder} {Skip May : ℕ → Type 0} (Z : Sim A B Skip May)
   near : (c : Cursor) (h : ℕ) (m : Marks (A .Mark) (B .Mark)) {a : A .State} {b : B .State}
       → P m
       → Z .R w a b
-      → Near Z w P (record { lexer = c; held = h; list = leftList m; built = a }) (record { lexer = c; held = h; list = rightList m; built = b })
+      → Near Z w P (leftAt c h m a) (rightAt c h m b)
 
 -- positions at the end of a run: the same token, outside all lists, and what was built is related as a whole
 pub data Ended {A B : Builder} {Skip May : ℕ → Type 0} (Z : Sim A B Skip May) : At A → At B → Type 0 where
@@ -59,26 +59,26 @@ module _ {A B : Builder} {Skip May : ℕ → Type 0} (Z : Sim A B Skip May) wher
   -- ---- the builder's operations, at positions
 
   op~ : {v : World A B} {P : Holds} {o : Out (A .State)} {u : Out (B .State)} (c : Cursor) (h : ℕ) (m : Marks (A .Mark) (B .Mark)) → P m → O (Z .R v) o u
-      → O (Near Z v P) (bind o (λ a. went (record { lexer = c; held = h; list = leftList m; built = a }))) (bind u (λ b. went (record { lexer = c; held = h; list = rightList m; built = b })))
+      → O (Near Z v P) (bind o (λ a. went (leftAt c h m a))) (bind u (λ b. went (rightAt c h m b)))
   op~ c h m fits o = bind~ o (λ x y r. went~ (near c h m fits r))
 
-  start~ : (kind : ℕ) {w : World A B} {P : Holds} {p : At A} {q : At B} → Near Z w P p q → O (Near Z (node kind (innermost w) (A .frame (p .built)) (B .frame (q .built)) ∷ w) P) (start A kind p) (start B kind q)
+  start~ : (kind : ℕ) {w : World A B} {P : Holds} {p : At A} {q : At B} → Near Z w P p q → O (Near Z (opening A B kind (p .built) (q .built) ◂ innermost w ∷ w) P) (start A kind p) (start B kind q)
   start~ kind (near c h m fits r) = op~ c h m fits (Z .starts (c .token) kind r)
 
   startAs~ : (kind : ℕ) {w : World A B} {P : Holds} {p : At A} {q : At B} {f : A .Frame} {g : B .Frame} → Near Z w P p q → A .frame (p .built) ≡ f → B .frame (q .built) ≡ g
-      → O (Near Z (node kind (innermost w) f g ∷ w) P) (start A kind p) (start B kind q)
+      → O (Near Z (node kind f g ◂ innermost w ∷ w) P) (start A kind p) (start B kind q)
   startAs~ kind h e d = rw (e, d) at (start~ kind h)
 
-  startAt~ : (kind : ℕ) {k : ℕ} {x : A .Mark × B .Mark} {older : Marked} {f : A .Frame} {g : B .Frame} {w : World A B} {P : Holds} {p : At A} {q : At B} → Near Z (node k (x ∷ older) f g ∷ w) P p q
-      → O (Near Z (node kind (x ∷ older) (A .frame (p .built)) (B .frame (q .built)) ∷ node k (x ∷ older) f g ∷ w) P) (startAt A kind (x .0) p) (startAt B kind (x .1) q)
+  startAt~ : (kind : ℕ) {n : Node A B} {x : A .Mark × B .Mark} {older : Marked} {w : World A B} {P : Holds} {p : At A} {q : At B} → Near Z (n ◂ (x ∷ older) ∷ w) P p q
+      → O (Near Z (opening A B kind (p .built) (q .built) ◂ (x ∷ older) ∷ n ◂ (x ∷ older) ∷ w) P) (startAt A kind (x .0) p) (startAt B kind (x .1) q)
   startAt~ kind (near c h m fits r) = op~ c h m fits (Z .startAts (c .token) kind r)
 
-  finish~ : {n top : Node A B} {w : World A B} {P : Holds} → Keeps Skip May (Near Z (n ∷ top ∷ w) P) (Near Z (top ∷ w) P) (finish A (n .kind) (n .left)) (finish B (n .kind) (n .right))
-  finish~ {n} _ _ (near c h m fits r) = op~ c h m fits (Z .finishes (c .token) n r)
+  finish~ : {n : Node A B} {live : Marked} {top : Level A B} {w : World A B} {P : Holds} → Keeps Skip May (Near Z (n ◂ live ∷ top ∷ w) P) (Near Z (top ∷ w) P) (finish A (n .kind) (n .left)) (finish B (n .kind) (n .right))
+  finish~ _ _ (near c h m fits r) = op~ c h m fits (Z .finishes (c .token) r)
 
   -- a wrap, at the newest mark
-  wrap~ : (kind : ℕ) {k : ℕ} {x : A .Mark × B .Mark} {older : Marked} {f : A .Frame} {g : B .Frame} {w : World A B} {P : Holds} {p : At A} {q : At B} → Near Z (node k (x ∷ older) f g ∷ w) P p q
-      → O (Near Z (node kind (x ∷ older) (A .frame (p .built)) (B .frame (q .built)) ∷ node k (x ∷ older) f g ∷ w) P) (wrap A kind (x .0) p) (wrap B kind (x .1) q)
+  wrap~ : (kind : ℕ) {n : Node A B} {x : A .Mark × B .Mark} {older : Marked} {w : World A B} {P : Holds} {p : At A} {q : At B} → Near Z (n ◂ (x ∷ older) ∷ w) P p q
+      → O (Near Z (opening A B kind (p .built) (q .built) ◂ (x ∷ older) ∷ n ◂ (x ∷ older) ∷ w) P) (wrap A kind (x .0) p) (wrap B kind (x .1) q)
   unfolding wrap
   wrap~ kind h = bind~ (startAt~ kind h) (λ p₁ q₁ h₁. bind~ (startAt~ SyntaxKind.ClauseArgument h₁) finish~)
 
@@ -86,7 +86,7 @@ module _ {A B : Builder} {Skip May : ℕ → Type 0} (Z : Sim A B Skip May) wher
   moved~ : (to : Cursor → Cursor) {w : World A B} {P : Holds} → Keeps Skip May (Near Z w P) (Near Z w P) (λ p. went (withLexer A (to (p .lexer)) p)) (λ q. went (withLexer B (to (q .lexer)) q))
   moved~ to _ _ (near c h m fits r) = went~ (near (to c) h m fits r)
 
-  forget~ : {k : ℕ} {less live : Marked} {f : A .Frame} {g : B .Frame} {w : World A B} {P : Holds} {p : At A} {q : At B} → Sub less live → Near Z (node k live f g ∷ w) P p q → Near Z (node k less f g ∷ w) P p q
+  forget~ : {n : Node A B} {less live : Marked} {w : World A B} {P : Holds} {p : At A} {q : At B} → Sub less live → Near Z (n ◂ live ∷ w) P p q → Near Z (n ◂ less ∷ w) P p q
   forget~ s (near c h m fits r) = near c h m fits (Z .forgets s r)
 
   -- ---- routines without an item inside
@@ -100,38 +100,38 @@ module _ {A B : Builder} {Skip May : ℕ → Type 0} (Z : Sim A B Skip May) wher
     abbrev sees : (ℕ → Bool) → Cursor → Bool
     sees test c = asked test (peek (source .tokens) c)
 
-    leaf~ : {top : Node A B} {w : World A B} {P : Holds} (l : Leaf) → Quiet (top ∷ w) P (leaf A l) (leaf B l)
+    leaf~ : {top : Level A B} {w : World A B} {P : Holds} (l : Leaf) → Quiet (top ∷ w) P (leaf A l) (leaf B l)
     leaf~ l _ _ (near c h m fits r) = op~ c h m fits (Z .leafs (c .token) l r)
 
-    eatAs~ : {top : Node A B} {w : World A B} {P : Holds} (kind : ℕ) → Quiet (top ∷ w) P (eatAs A source kind) (eatAs B source kind)
+    eatAs~ : {top : Level A B} {w : World A B} {P : Holds} (kind : ℕ) → Quiet (top ∷ w) P (eatAs A source kind) (eatAs B source kind)
     unfolding eatAs
     eatAs~ kind _ _ (near c h m fits r) = bind~ (leaf~ _ _ _ (near c h m fits r)) (moved~ eaten)
 
-    eat~ : {top : Node A B} {w : World A B} {P : Holds} → Quiet (top ∷ w) P (eat A source) (eat B source)
+    eat~ : {top : Level A B} {w : World A B} {P : Holds} → Quiet (top ∷ w) P (eat A source) (eat B source)
     unfolding eat
     eat~ _ _ (near c h m fits r) = eatAs~ _ _ _ (near c h m fits r)
 
-    eatIf~ : {top : Node A B} {w : World A B} {P : Holds} (kind : ℕ) → Quiet (top ∷ w) P (eatIf A source kind) (eatIf B source kind)
+    eatIf~ : {top : Level A B} {w : World A B} {P : Holds} (kind : ℕ) → Quiet (top ∷ w) P (eatIf A source kind) (eatIf B source kind)
     unfolding eatIf
     eatIf~ kind _ _ (near c h m fits r) = cond~ (sees (eqb kind) c) (λ _. eat~ _ _ (near c h m fits r)) (λ _. went~ (near c h m fits r))
 
-    eatWhile~ : {top : Node A B} {w : World A B} {P : Holds} (test : ℕ → Bool) (turns : ℕ) → Quiet (top ∷ w) P (eatWhile A source test turns) (eatWhile B source test turns)
+    eatWhile~ : {top : Level A B} {w : World A B} {P : Holds} (test : ℕ → Bool) (turns : ℕ) → Quiet (top ∷ w) P (eatWhile A source test turns) (eatWhile B source test turns)
     unfolding eatWhile
     eatWhile~ test zero _ _ h = went~ h
     eatWhile~ test (suc n) _ _ (near c h m fits r) = cond~ (sees test c) (λ _. bind~ (eat~ _ _ (near c h m fits r)) (eatWhile~ test n)) (λ _. went~ (near c h m fits r))
 
-    eatAll~ : {top : Node A B} {w : World A B} {P : Holds} (test : ℕ → Bool) → Quiet (top ∷ w) P (λ p. eatWhile A source test (turns A source p) p) (λ q. eatWhile B source test (turns B source q) q)
+    eatAll~ : {top : Level A B} {w : World A B} {P : Holds} (test : ℕ → Bool) → Quiet (top ∷ w) P (λ p. eatWhile A source test (turns A source p) p) (λ q. eatWhile B source test (turns B source q) q)
     eatAll~ test _ _ (near c h m fits r) = eatWhile~ test _ _ _ (near c h m fits r)
 
-    trivia~ : {top : Node A B} {w : World A B} {P : Holds} → Quiet (top ∷ w) P (trivia A source) (trivia B source)
+    trivia~ : {top : Level A B} {w : World A B} {P : Holds} → Quiet (top ∷ w) P (trivia A source) (trivia B source)
     unfolding trivia
     trivia~ = eatAll~ isTrivia
 
-    singleChar~ : {top : Node A B} {w : World A B} {P : Holds} → Quiet (top ∷ w) P (singleChar A source) (singleChar B source)
+    singleChar~ : {top : Level A B} {w : World A B} {P : Holds} → Quiet (top ∷ w) P (singleChar A source) (singleChar B source)
     unfolding singleChar
     singleChar~ _ _ (near c h m fits r) = bind~ (leaf~ _ _ _ (near c h m fits r)) (moved~ (consumed (source .tokens) _))
 
-    oneIn~ : (kind : ℕ) {top : Node A B} {w : World A B} {P : Holds} → Quiet (top ∷ w) P (oneIn A source kind) (oneIn B source kind)
+    oneIn~ : (kind : ℕ) {top : Level A B} {w : World A B} {P : Holds} → Quiet (top ∷ w) P (oneIn A source kind) (oneIn B source kind)
     unfolding oneIn
     oneIn~ kind _ _ h = from~ (start~ kind h ▸ eat~ ⨾ finish~ ⨾ done~)
 
@@ -142,26 +142,26 @@ module _ {A B : Builder} {Skip May : ℕ → Type 0} (Z : Sim A B Skip May) wher
     dropFrom~ zero i r = r
     dropFrom~ (suc n) i r = dropFrom~ n (i + 1) (Z .drops i reasonTrivia r)
 
-    leavesFrom~ : (n i : ℕ) {top : Node A B} {w : World A B} {P : Holds} → Quiet (top ∷ w) P (leavesFrom A source n i) (leavesFrom B source n i)
+    leavesFrom~ : (n i : ℕ) {top : Level A B} {w : World A B} {P : Holds} → Quiet (top ∷ w) P (leavesFrom A source n i) (leavesFrom B source n i)
     unfolding leavesFrom
     leavesFrom~ zero i _ _ h = went~ h
     leavesFrom~ (suc n) i _ _ h = bind~ (leaf~ _ _ _ h) (leavesFrom~ n (i + 1))
 
     -- nothing is held
-    heldNone~ : {top : Node A B} {w : World A B} {P : Holds} → Quiet (top ∷ w) P (λ p. went (holdingNone A p)) (λ q. went (holdingNone B q))
+    heldNone~ : {top : Level A B} {w : World A B} {P : Holds} → Quiet (top ∷ w) P (λ p. went (holdingNone A p)) (λ q. went (holdingNone B q))
     heldNone~ _ _ (near c h m fits r) = went~ (near c (c .token) m fits r)
 
-    extract~ : {top : Node A B} {w : World A B} {P : Holds} → Quiet (top ∷ w) P (extractHoldingTrivia A source) (extractHoldingTrivia B source)
+    extract~ : {top : Level A B} {w : World A B} {P : Holds} → Quiet (top ∷ w) P (extractHoldingTrivia A source) (extractHoldingTrivia B source)
     unfolding extractHoldingTrivia
     extract~ _ _ (near c h m fits r) = bind~ (leavesFrom~ (c .token - h) h _ _ (near c h m fits r)) heldNone~
 
     -- ---- items without an item inside
 
-    text~ : {top : Node A B} {w : World A B} {P : Holds} → Quiet (top ∷ w) P (text A source) (text B source)
+    text~ : {top : Level A B} {w : World A B} {P : Holds} → Quiet (top ∷ w) P (text A source) (text B source)
     unfolding text
     text~ _ _ h = from~ (start~ SyntaxKind.ItemText h ▸ eat~ ⨾ eatAll~ isTextComponent ⨾ finish~ ⨾ done~)
 
-    delimiterOf~ : (o : Option ℕ) {top : Node A B} {w : World A B} {P : Holds} → Quiet (top ∷ w) P (delimiterOf A source o) (delimiterOf B source o)
+    delimiterOf~ : (o : Option ℕ) {top : Level A B} {w : World A B} {P : Holds} → Quiet (top ∷ w) P (delimiterOf A source o) (delimiterOf B source o)
     delimiterOf~ none _ _ h = went~ h
     delimiterOf~ (some kind) p q h =
         cond~ (eqb kind Token.Generic) (λ _. eatAs~ SyntaxKind.TokenCommandSym p q h)
@@ -169,19 +169,19 @@ module _ {A B : Builder} {Skip May : ℕ → Type 0} (Z : Sim A B Skip May) wher
         (λ _. cond~ (eqb kind Token.Dollar) (λ _. went~ h)
         (λ _. cond~ (eqb kind Token.Word) (λ _. singleChar~ p q h) (λ _. eat~ p q h))))
 
-    delimiter~ : {top : Node A B} {w : World A B} {P : Holds} → Quiet (top ∷ w) P (delimiter A source) (delimiter B source)
+    delimiter~ : {top : Level A B} {w : World A B} {P : Holds} → Quiet (top ∷ w) P (delimiter A source) (delimiter B source)
     unfolding delimiter
     delimiter~ _ _ (near c h m fits r) = delimiterOf~ (peek (source .tokens) c) _ _ (near c h m fits r)
 
-    clauseLr~ : {top : Node A B} {w : World A B} {P : Holds} → Quiet (top ∷ w) P (clauseLr A source) (clauseLr B source)
+    clauseLr~ : {top : Level A B} {w : World A B} {P : Holds} → Quiet (top ∷ w) P (clauseLr A source) (clauseLr B source)
     unfolding clauseLr
     clauseLr~ _ _ h = from~ (start~ SyntaxKind.ClauseLR h ▸ eat~ ⨾ trivia~ ⨾ delimiter~ ⨾ finish~ ⨾ done~)
 
-    dropNext~ : (reason : ℕ) {top : Node A B} {w : World A B} {P : Holds} → Quiet (top ∷ w) P (dropNext A source reason) (dropNext B source reason)
+    dropNext~ : (reason : ℕ) {top : Level A B} {w : World A B} {P : Holds} → Quiet (top ∷ w) P (dropNext A source reason) (dropNext B source reason)
     unfolding dropNext
     dropNext~ reason _ _ (near c h m fits r) = went~ (near (eaten c) h m fits (Z .drops (c .token) reason r))
 
-    eatBodyOfIfs~ : (n nested : ℕ) {top : Node A B} {w : World A B} {P : Holds} → Quiet (top ∷ w) P (eatBodyOfIfs A source n nested) (eatBodyOfIfs B source n nested)
+    eatBodyOfIfs~ : (n nested : ℕ) {top : Level A B} {w : World A B} {P : Holds} → Quiet (top ∷ w) P (eatBodyOfIfs A source n nested) (eatBodyOfIfs B source n nested)
     unfolding eatBodyOfIfs
     eatBodyOfIfs~ zero nested _ _ h = went~ h
     eatBodyOfIfs~ (suc n) nested _ _ (near c h m fits r) =
@@ -191,10 +191,10 @@ module _ {A B : Builder} {Skip May : ℕ → Type 0} (Z : Sim A B Skip May) wher
         (λ _. cond~ (sees isIf c) (λ _. bind~ (eat~ _ _ here) (eatBodyOfIfs~ n (nested + 1)))
         (λ _. cond~ (sees (λ kind. true) c) (λ _. bind~ (eat~ _ _ here) (eatBodyOfIfs~ n nested)) (λ _. went~ here)))
 
-    body~ : {top : Node A B} {w : World A B} {P : Holds} → Quiet (top ∷ w) P (λ p. eatBodyOfIfs A source (turns A source p) 0 p) (λ q. eatBodyOfIfs B source (turns B source q) 0 q)
+    body~ : {top : Level A B} {w : World A B} {P : Holds} → Quiet (top ∷ w) P (λ p. eatBodyOfIfs A source (turns A source p) 0 p) (λ q. eatBodyOfIfs B source (turns B source q) 0 q)
     body~ _ _ (near c h m fits r) = eatBodyOfIfs~ _ 0 _ _ (near c h m fits r)
 
-    skippedBody~ : (kind : ℕ) {top : Node A B} {w : World A B} {P : Holds} → Quiet (top ∷ w) P (skippedBody A source kind) (skippedBody B source kind)
+    skippedBody~ : (kind : ℕ) {top : Level A B} {w : World A B} {P : Holds} → Quiet (top ∷ w) P (skippedBody A source kind) (skippedBody B source kind)
     unfolding skippedBody
     skippedBody~ kind _ _ h = from~ (start~ kind h ▸ dropNext~ reasonOpener ⨾ body~ ⨾ finish~ ⨾ done~)
 
@@ -204,45 +204,45 @@ module _ {A B : Builder} {Skip May : ℕ → Type 0} (Z : Sim A B Skip May) wher
     abbrev carries : At A → Bool
     carries p = attachable (kindAt (source .tokens) (p .lexer .token)) (source .shape (p .lexer .token))
 
-    -- `held` in front of a list, where they are kept
+    -- marks in front of others, where they are kept
     abbrev kept : Bool → Marked → Marked → Marked
     kept true front l = front ++ l
     kept false front l = l
 
     -- behind an item: the marks are among some of those before it, which may still be used, and those in front too if the item may carry a script
-    data Behind (t : Bool) (front l : Marked) (k : ℕ) (f : A .Frame) (g : B .Frame) (w : World A B) (p : At A) (q : At B) : Type 0 where
-      behind : (less : Marked) → Sub less l → Near Z (node k (kept t front less) f g ∷ w) (Among less) p q → Behind t front l k f g w p q
+    data Behind (t : Bool) (front l : Marked) (n : Node A B) (w : World A B) (p : At A) (q : At B) : Type 0 where
+      behind : (less : Marked) → Sub less l → Near Z (n ◂ (kept t front less) ∷ w) (Among less) p q → Behind t front l n w p q
 
     -- what reads an item inside a node: with marks among `l`, all of which may be used, and more in front
     abbrev Inner : (Bool → At A → Out (At A)) → (Bool → At B → Out (At B)) → Type 0
-    Inner i j = (single : Bool) (front l : Marked) (k : ℕ) (f : A .Frame) (g : B .Frame) (w : World A B) (p : At A) (q : At B)
-        → Near Z (node k (front ++ l) f g ∷ w) (Among l) p q
-        → O (Behind (carries p) front l k f g w) (i single p) (j single q)
+    Inner i j = (single : Bool) (front l : Marked) (n : Node A B) (w : World A B) (p : At A) (q : At B)
+        → Near Z (n ◂ (front ++ l) ∷ w) (Among l) p q
+        → O (Behind (carries p) front l n w) (i single p) (j single q)
 
     -- in a list: its marks are among those that may be used
-    data Listing (k : ℕ) (f : A .Frame) (g : B .Frame) (w : World A B) (p : At A) (q : At B) : Type 0 where
-      listing : (l : Marked) → Near Z (node k l f g ∷ w) (Among l) p q → Listing k f g w p q
+    data Listing (n : Node A B) (w : World A B) (p : At A) (q : At B) : Type 0 where
+      listing : (l : Marked) → Near Z (n ◂ l ∷ w) (Among l) p q → Listing n w p q
 
-    module _ {k : ℕ} {f : A .Frame} {g : B .Frame} {w : World A B} where
-      settled : {t : Bool} {front l : Marked} {p : At A} {q : At B} → Behind t front l k f g w p q → Near Z (node k [] f g ∷ w) (Among l) p q
+    module _ {n : Node A B} {w : World A B} where
+      settled : {t : Bool} {front l : Marked} {p : At A} {q : At B} → Behind t front l n w p q → Near Z (n ◂ [] ∷ w) (Among l) p q
       settled (behind less sub (near c h m among r)) = near c h m (sub-trans among sub) (Z .forgets (sub-nil _) r)
 
-      unmoved : (t : Bool) {front l : Marked} {p : At A} {q : At B} → Near Z (node k (front ++ l) f g ∷ w) (Among l) p q → Behind t front l k f g w p q
+      unmoved : (t : Bool) {front l : Marked} {p : At A} {q : At B} → Near Z (n ◂ (front ++ l) ∷ w) (Among l) p q → Behind t front l n w p q
       unmoved true {l} h = behind l (sub-refl l) h
       unmoved false {front} {l} h = behind l (sub-refl l) (forget~ (sub-behind front l) h)
 
-      closed : {p : At A} {q : At B} → Listing k f g w p q → Near Z (node k [] f g ∷ w) (λ m. Unit {0}) p q
+      closed : {p : At A} {q : At B} → Listing n w p q → Near Z (n ◂ [] ∷ w) (λ m. Unit {0}) p q
       closed (listing l (near c h m among r)) = near c h m tt (Z .forgets (sub-nil l) r)
 
       -- last becomes the mark before the item, if it may carry a script
-      lasts : (t : Bool) (x : A .Mark × B .Mark) {l : Marked} {p : At A} {q : At B} → Behind t (x ∷ []) l k f g w p q
-          → Listing k f g w (withMarks A (p .list .start) (cond t (some (x .0)) (p .list .last)) p) (withMarks B (q .list .start) (cond t (some (x .1)) (q .list .last)) q)
+      lasts : (t : Bool) (x : A .Mark × B .Mark) {l : Marked} {p : At A} {q : At B} → Behind t (x ∷ []) l n w p q
+          → Listing n w (withMarks A (p .list .start) (cond t (some (x .0)) (p .list .last)) p) (withMarks B (q .list .start) (cond t (some (x .1)) (q .list .last)) q)
       lasts true x (behind less sub (near c h m among r)) = listing (x ∷ less) (near c h (record { scope = m .scope; start = m .start; last = some x }) (keep (sub-trans (sub-behind (listed (m .last)) (listed (m .start))) among)) r)
       lasts false x (behind less sub (near c h m among r)) = listing less (near c h m among r)
 
       -- a new list, with a new mark as its start
-      fresh : (s : Scope) (c : Cursor) (h : ℕ) {live : Marked} {a : A .State} {b : B .State} → Z .R (node k live f g ∷ w) a b
-          → Listing k f g w (record { lexer = c; held = h; list = record { scope = s; start = some (A .mark a); last = none }; built = a }) (record { lexer = c; held = h; list = record { scope = s; start = some (B .mark b); last = none }; built = b })
+      fresh : (s : Scope) (c : Cursor) (h : ℕ) {live : Marked} {a : A .State} {b : B .State} → Z .R (n ◂ live ∷ w) a b
+          → Listing n w (leftAt c h (record { scope = s; start = some (A .mark a, B .mark b); last = none }) a) (rightAt c h (record { scope = s; start = some (A .mark a, B .mark b); last = none }) b)
       fresh s c h {live} {a} {b} r =
           listing ((A .mark a, B .mark b) ∷ []) (near c h (record { scope = s; start = some (A .mark a, B .mark b); last = none }) (sub-refl _) (Z .forgets (keep (sub-nil live)) (Z .marks r)))
 
@@ -252,42 +252,42 @@ module _ {A B : Builder} {Skip May : ℕ → Type 0} (Z : Sim A B Skip May) wher
     relist~ to fits′ _ _ (near c h m fits r) = went~ (near c h (to (m .scope)) (fits′ (m .scope)) r)
 
     module _ {i : Bool → At A → Out (At A)} {j : Bool → At B → Out (At B)} (inner : Inner i j) where
-      items~ : (stop : ℕ → Bool) (n : ℕ) {k : ℕ} {f : A .Frame} {g : B .Frame} {w : World A B} → Keeps Skip May (Listing k f g w) (Listing k f g w) (items A source i stop n) (items B source j stop n)
+      items~ : (stop : ℕ → Bool) (turns : ℕ) {n : Node A B} {w : World A B} → Keeps Skip May (Listing n w) (Listing n w) (items A source i stop turns) (items B source j stop turns)
       unfolding items
       items~ stop zero _ _ h = went~ h
-      items~ stop (suc n) {k} {f} {g} {w} _ _ (listing l (near c h m among r)) =
+      items~ stop (suc turns) {n} {w} _ _ (listing l (near c h m among r)) =
           cond~ (sees (λ kind. cond (stop kind) false true) c)
-          (λ _. bind~ (inner false (_ ∷ []) l k f g w _ _ (near c h m among (Z .marks r))) (λ p q b. items~ stop n _ _ (lasts _ _ b)))
+          (λ _. bind~ (inner false (_ ∷ []) l n w _ _ (near c h m among (Z .marks r))) (λ p q b. items~ stop turns _ _ (lasts _ _ b)))
           (λ _. went~ (listing l (near c h m among r)))
 
       -- all items of a list, up to what stops its scope
-      allItems~ : (stop : Scope → ℕ → Bool) {k : ℕ} {f : A .Frame} {g : B .Frame} {w : World A B}
-          → Keeps Skip May (Listing k f g w) (Near Z (node k [] f g ∷ w) (λ m. Unit {0})) (λ p. items A source i (stop (p .list .scope)) (turns A source p) p) (λ q. items B source j (stop (q .list .scope)) (turns B source q) q)
+      allItems~ : (stop : Scope → ℕ → Bool) {n : Node A B} {w : World A B}
+          → Keeps Skip May (Listing n w) (Near Z (n ◂ [] ∷ w) (λ m. Unit {0})) (λ p. items A source i (stop (p .list .scope)) (turns A source p) p) (λ q. items B source j (stop (q .list .scope)) (turns B source q) q)
       allItems~ stop _ _ (listing l (near c h m among r)) = weaker~ (λ p q. closed) (items~ (stop (m .scope)) _ _ _ (listing l (near c h m among r)))
 
-      itemList~ : (scope : Scope) {k : ℕ} {live : Marked} {f : A .Frame} {g : B .Frame} {w : World A B} {P : Holds}
-          → Keeps Skip May (Near Z (node k live f g ∷ w) P) (Near Z (node k [] f g ∷ w) P) (itemList A source i scope) (itemList B source j scope)
+      itemList~ : (scope : Scope) {n : Node A B} {live : Marked} {w : World A B} {P : Holds}
+          → Keeps Skip May (Near Z (n ◂ live ∷ w) P) (Near Z (n ◂ [] ∷ w) P) (itemList A source i scope) (itemList B source j scope)
       unfolding itemList
       itemList~ scope _ _ (near c h m fits r) = from~ (went~ (fresh scope c h r) ▸ allItems~ (λ s. stops scope) ⨾ relist~ (λ s. m) (λ s. fits) ⨾ done~)
 
-      itemGroup~ : (scope : Scope) {top : Node A B} {w : World A B} {P : Holds} → Quiet (top ∷ w) P (itemGroup A source i scope) (itemGroup B source j scope)
+      itemGroup~ : (scope : Scope) {top : Level A B} {w : World A B} {P : Holds} → Quiet (top ∷ w) P (itemGroup A source i scope) (itemGroup B source j scope)
       unfolding itemGroup
       itemGroup~ scope _ _ h = from~ (start~ (groupKind scope) h ▸ eat~ ⨾ itemList~ scope ⨾ eatIf~ (closer scope) ⨾ finish~ ⨾ done~)
 
       -- ---- arguments
 
-      pieceIn~ : (what : Piece) {k : ℕ} {f : A .Frame} {g : B .Frame} {w : World A B} → Quiet (node k [] f g ∷ w) (Among []) (piece A source i what) (piece B source j what)
+      pieceIn~ : (what : Piece) {n : Node A B} {w : World A B} → Quiet (n ◂ [] ∷ w) (Among []) (piece A source i what) (piece B source j what)
       unfolding piece
       pieceIn~ character p q h = singleChar~ p q h
       pieceIn~ (within scope) p q h = itemGroup~ scope p q h
       pieceIn~ brace p q h = eat~ p q h
-      pieceIn~ item {k} {f} {g} {w} p q h = weaker~ (λ p q. settled) (inner false [] [] k f g w p q h)
+      pieceIn~ item {n} {w} p q h = weaker~ (λ p q. settled) (inner false [] [] n w p q h)
 
-      piece~ : (what : Piece) {k : ℕ} {live : Marked} {f : A .Frame} {g : B .Frame} {w : World A B}
-          → Keeps Skip May (Near Z (node k live f g ∷ w) (Among [])) (Near Z (node k [] f g ∷ w) (Among [])) (piece A source i what) (piece B source j what)
+      piece~ : (what : Piece) {n : Node A B} {live : Marked} {w : World A B}
+          → Keeps Skip May (Near Z (n ◂ live ∷ w) (Among [])) (Near Z (n ◂ [] ∷ w) (Among [])) (piece A source i what) (piece B source j what)
       piece~ what {live} p q h = pieceIn~ what p q (forget~ (sub-nil live) h)
 
-      argument~ : (what : Piece) {top : Node A B} {w : World A B} → Quiet (top ∷ w) (Among []) (argument A source i what) (argument B source j what)
+      argument~ : (what : Piece) {top : Level A B} {w : World A B} → Quiet (top ∷ w) (Among []) (argument A source i what) (argument B source j what)
       unfolding argument ignoreHoldingTrivia
       argument~ what {w} _ _ (near c h m {a} {b} among r) =
           let opened =
@@ -296,7 +296,7 @@ module _ {A B : Builder} {Skip May : ℕ → Type 0} (Z : Sim A B Skip May) wher
           (dropFrom-frame B source (Z .frame-right) (c .token - h) h b) in
           from~ (goes refl refl (opened ▸ piece~ what ⨾ finish~ ⨾ heldNone~ ⨾ done~))
 
-      module _ (more : Matcher → At A → Out (At A)) (more′ : Matcher → At B → Out (At B)) {top : Node A B} {w : World A B} (goesOn : (m : Matcher) → Quiet (top ∷ w) (Among []) (more m) (more′ m)) where
+      module _ (more : Matcher → At A → Out (At A)) (more′ : Matcher → At B → Out (At B)) {top : Level A B} {w : World A B} (goesOn : (m : Matcher) → Quiet (top ∷ w) (Among []) (more m) (more′ m)) where
         chosen~ : (choice : Choice) (m : Matcher) → Quiet (top ∷ w) (Among []) (chosen A source i more choice m) (chosen B source j more′ choice m)
         chosen~ ends m _ _ h = went~ h
         chosen~ holds m _ _ (near c h marks among r) = goesOn m _ _ (near (eaten c) h marks among r)
@@ -306,37 +306,37 @@ module _ {A B : Builder} {Skip May : ℕ → Type 0} (Z : Sim A B Skip May) wher
         choiceFor~ none m p q h = went~ h
         choiceFor~ (some kind) m _ _ (near c h marks among r) = chosen~ (choose (source .states) (marks .scope) m kind) m _ _ (near c h marks among r)
 
-      arguments~ : (n : ℕ) (m : Matcher) {top : Node A B} {w : World A B} → Quiet (top ∷ w) (Among []) (arguments A source i n m) (arguments B source j n m)
+      arguments~ : (n : ℕ) (m : Matcher) {top : Level A B} {w : World A B} → Quiet (top ∷ w) (Among []) (arguments A source i n m) (arguments B source j n m)
       unfolding arguments
       arguments~ zero m _ _ h = went~ h
       arguments~ (suc n) m _ _ (near c h marks among r) = choiceFor~ (arguments A source i n) (arguments B source j n) (λ m. arguments~ n m) (peek (source .tokens) c) m _ _ (near c h marks among r)
 
-      allArguments~ : (m : Matcher) {top : Node A B} {w : World A B} → Quiet (top ∷ w) (Among []) (λ p. arguments A source i (turns A source p) m p) (λ q. arguments B source j (turns B source q) m q)
+      allArguments~ : (m : Matcher) {top : Level A B} {w : World A B} → Quiet (top ∷ w) (Among []) (λ p. arguments A source i (turns A source p) m p) (λ q. arguments B source j (turns B source q) m q)
       allArguments~ m _ _ (near c h marks among r) = arguments~ _ m _ _ (near c h marks among r)
 
       -- behind arguments the start is as it was, and there is no last
       abbrev Around : Holds → Holds → Type 0
       Around P P′ = (m : Marks (A .Mark) (B .Mark)) → P m → (s : Scope) → P′ (record { scope = s; start = m .start; last = none })
 
-      matchArguments~ : (m : Matcher) {top : Node A B} {w : World A B} {P P′ : Holds} → Around P P′ → Keeps Skip May (Near Z (top ∷ w) P) (Near Z (top ∷ w) P′) (matchArguments A source i m) (matchArguments B source j m)
+      matchArguments~ : (m : Matcher) {top : Level A B} {w : World A B} {P P′ : Holds} → Around P P′ → Keeps Skip May (Near Z (top ∷ w) P) (Near Z (top ∷ w) P′) (matchArguments A source i m) (matchArguments B source j m)
       unfolding matchArguments
       matchArguments~ m around _ _ (near c h marks fits r) =
           from~ (went~ (near c (c .token) (record { scope = marks .scope; start = none; last = none }) nil r) ▸ allArguments~ m ⨾ relist~ (λ s. record { scope = s; start = marks .start; last = none }) (around marks fits) ⨾ done~)
 
-      anew~ : {k : ℕ} {live : Marked} {f : A .Frame} {g : B .Frame} {w : World A B} {P : Holds}
-          → Keeps Skip May (Near Z (node k live f g ∷ w) P) (Listing k f g w) (λ p. went (withMarks A (some (A .mark (p .built))) none p)) (λ q. went (withMarks B (some (B .mark (q .built))) none q))
+      anew~ : {n : Node A B} {live : Marked} {w : World A B} {P : Holds}
+          → Keeps Skip May (Near Z (n ◂ live ∷ w) P) (Listing n w) (λ p. went (withMarks A (some (A .mark (p .built))) none p)) (λ q. went (withMarks B (some (B .mark (q .built))) none q))
       anew~ _ _ (near c h m fits r) = went~ (fresh (m .scope) c h r)
 
-      greedyArgument~ : {top : Node A B} {w : World A B} {P P′ : Holds} → Around P P′ → Keeps Skip May (Near Z (top ∷ w) P) (Near Z (top ∷ w) P′) (greedyArgument A source i) (greedyArgument B source j)
+      greedyArgument~ : {top : Level A B} {w : World A B} {P P′ : Holds} → Around P P′ → Keeps Skip May (Near Z (top ∷ w) P) (Near Z (top ∷ w) P′) (greedyArgument A source i) (greedyArgument B source j)
       unfolding greedyArgument
       greedyArgument~ {P} around _ _ (near c h marks fits r) =
           from~ (start~ SyntaxKind.ClauseArgument {P = P} (near c h marks fits r) ▸ anew~ ⨾ allItems~ greedyStops ⨾ relist~ (λ s. record { scope = s; start = marks .start; last = none }) (around marks fits) ⨾ finish~ ⨾ done~)
 
       -- ---- commands
 
-      commandNode~ : {rest : At A → Out (At A)} {rest′ : At B → Out (At B)} {live : Marked} {f : A .Frame} {g : B .Frame} {top : Node A B} {w : World A B} {P P′ : Holds}
-          → Keeps Skip May (Near Z (node SyntaxKind.ItemCmd live f g ∷ top ∷ w) P) (Near Z (node SyntaxKind.ItemCmd live f g ∷ top ∷ w) P′) rest rest′
-          → Keeps Skip May (Near Z (node SyntaxKind.ItemCmd live f g ∷ top ∷ w) P) (Near Z (top ∷ w) P′) (commandNode A source i rest f) (commandNode B source j rest′ g)
+      commandNode~ : {rest : At A → Out (At A)} {rest′ : At B → Out (At B)} {live : Marked} {f : A .Frame} {g : B .Frame} {top : Level A B} {w : World A B} {P P′ : Holds}
+          → Keeps Skip May (Near Z (node SyntaxKind.ItemCmd f g ◂ live ∷ top ∷ w) P) (Near Z (node SyntaxKind.ItemCmd f g ◂ live ∷ top ∷ w) P′) rest rest′
+          → Keeps Skip May (Near Z (node SyntaxKind.ItemCmd f g ◂ live ∷ top ∷ w) P) (Near Z (top ∷ w) P′) (commandNode A source i rest f) (commandNode B source j rest′ g)
       unfolding commandNode
       commandNode~ k = steps~ (eat~ ⨾ k ⨾ finish~ ⨾ done~)
 
@@ -353,8 +353,8 @@ module _ {A B : Builder} {Skip May : ℕ → Type 0} (Z : Sim A B Skip May) wher
         at-none : (l : Marked) → Newest none l
         at-first : (x : A .Mark × B .Mark) (l : Marked) → Newest (some x) (x ∷ l)
 
-      startCommandAt~ : {o : Option (A .Mark × B .Mark)} {k : ℕ} {live : Marked} {f : A .Frame} {g : B .Frame} {w : World A B} {P : Holds} {p : At A} {q : At B} → Newest o live → Near Z (node k live f g ∷ w) P p q
-          → O (Near Z (node SyntaxKind.ItemCmd live (A .frame (p .built)) (B .frame (q .built)) ∷ node k live f g ∷ w) P) (startCommandAt A source (lefts o) p) (startCommandAt B source (rights o) q)
+      startCommandAt~ : {o : Option (A .Mark × B .Mark)} {n : Node A B} {live : Marked} {w : World A B} {P : Holds} {p : At A} {q : At B} → Newest o live → Near Z (n ◂ live ∷ w) P p q
+          → O (Near Z (opening A B SyntaxKind.ItemCmd (p .built) (q .built) ◂ live ∷ n ◂ live ∷ w) P) (startCommandAt A source (lefts o) p) (startCommandAt B source (rights o) q)
       unfolding startCommandAt
       startCommandAt~ (at-none l) h = start~ SyntaxKind.ItemCmd h
       startCommandAt~ (at-first x l) h = wrap~ SyntaxKind.ItemCmd h
@@ -364,69 +364,69 @@ module _ {A B : Builder} {Skip May : ℕ → Type 0} (Z : Sim A B Skip May) wher
       at-listed (some x) = at-first x []
 
       -- left1: at last, else at start
-      left1~ : (s : Scope) (first last : Option (A .Mark × B .Mark)) (c : Cursor) (h : ℕ) {k : ℕ} {f : A .Frame} {g : B .Frame} {w : World A B} {a : A .State} {b : B .State}
-          → Z .R (node k (listed last ++ listed first) f g ∷ w) a b
-          → O (Near Z (node SyntaxKind.ItemCmd (listed last ++ listed first) (A .frame a) (B .frame b) ∷ node k (listed last ++ listed first) f g ∷ w) (Among (listed last ++ listed first)))
-          (startCommandAt A source (orElse A source (lefts last) (lefts first)) (record { lexer = c; held = h; list = record { scope = s; start = lefts first; last = lefts last }; built = a }))
-          (startCommandAt B source (orElse B source (rights last) (rights first)) (record { lexer = c; held = h; list = record { scope = s; start = rights first; last = rights last }; built = b }))
+      left1~ : (s : Scope) (first last : Option (A .Mark × B .Mark)) (c : Cursor) (h : ℕ) {n : Node A B} {w : World A B} {a : A .State} {b : B .State}
+          → Z .R (n ◂ (listed last ++ listed first) ∷ w) a b
+          → O (Near Z (opening A B SyntaxKind.ItemCmd a b ◂ (listed last ++ listed first) ∷ n ◂ (listed last ++ listed first) ∷ w) (Among (listed last ++ listed first)))
+          (startCommandAt A source (orElse A source (lefts last) (lefts first)) (leftAt c h (record { scope = s; start = first; last = last }) a))
+          (startCommandAt B source (orElse B source (rights last) (rights first)) (rightAt c h (record { scope = s; start = first; last = last }) b))
       left1~ s first none c h r = startCommandAt~ (at-listed first) (near c h (record { scope = s; start = first; last = none }) (sub-refl _) r)
       left1~ s first (some x) c h r = startCommandAt~ (at-first x (listed first)) (near c h (record { scope = s; start = first; last = some x }) (sub-refl _) r)
 
       -- ---- environments, left-right bodies, scripts
 
-      environmentArguments~ : (s : Shape) (l : Marked) {top : Node A B} {w : World A B} → Quiet (top ∷ w) (Among l) (environmentArguments A source i s) (environmentArguments B source j s)
+      environmentArguments~ : (s : Shape) (l : Marked) {top : Level A B} {w : World A B} → Quiet (top ∷ w) (Among l) (environmentArguments A source i s) (environmentArguments B source j s)
       unfolding environmentArguments
       environmentArguments~ s l _ _ (near c h m among r) =
           let here = near c h m among r in
           cond~ (nameOnly s) (λ _. heldNone~ _ _ here)
           (λ _. cond~ (isGreedy (startMatch (s .form) (s .value))) (λ _. refused~ greedyEnvironment (c .token) (Z .greedy)) (λ _. matchArguments~ _ (around-among l) _ _ here))
 
-      beginClause~ : (l : Marked) {top : Node A B} {w : World A B} → Quiet (top ∷ w) (Among l) (beginClause A source i) (beginClause B source j)
+      beginClause~ : (l : Marked) {top : Level A B} {w : World A B} → Quiet (top ∷ w) (Among l) (beginClause A source i) (beginClause B source j)
       unfolding beginClause
       beginClause~ l _ _ (near c h m among r) =
           from~ (start~ SyntaxKind.ItemBegin {P = Among l} (near c h m among r) ▸ eat~ ⨾ environmentArguments~ (ofClass classEnvironment (source .shape (c .token))) l ⨾ finish~ ⨾ extract~ ⨾ done~)
 
-      endClause~ : {top : Node A B} {w : World A B} {P : Holds} → Quiet (top ∷ w) P (endClause A source i) (endClause B source j)
+      endClause~ : {top : Level A B} {w : World A B} {P : Holds} → Quiet (top ∷ w) P (endClause A source i) (endClause B source j)
       unfolding endClause
       endClause~ _ _ (near c h m fits r) = cond~ (sees (eqb Token.EndEnvironment) c) (λ _. oneIn~ SyntaxKind.ItemEnd _ _ (near c h m fits r)) (λ _. went~ (near c h m fits r))
 
-      environmentItem~ : (l : Marked) {top : Node A B} {w : World A B} → Quiet (top ∷ w) (Among l) (environmentItem A source i) (environmentItem B source j)
+      environmentItem~ : (l : Marked) {top : Level A B} {w : World A B} → Quiet (top ∷ w) (Among l) (environmentItem A source i) (environmentItem B source j)
       unfolding environmentItem
       environmentItem~ l _ _ h = from~ (start~ SyntaxKind.ItemEnv h ▸ beginClause~ l ⨾ itemList~ Scope.Environment ⨾ endClause~ ⨾ finish~ ⨾ done~)
 
-      rightClause~ : {top : Node A B} {w : World A B} {P : Holds} → Quiet (top ∷ w) P (rightClause A source i) (rightClause B source j)
+      rightClause~ : {top : Level A B} {w : World A B} {P : Holds} → Quiet (top ∷ w) P (rightClause A source i) (rightClause B source j)
       unfolding rightClause
       rightClause~ _ _ (near c h m fits r) = cond~ (sees (eqb Token.Right) c) (λ _. clauseLr~ _ _ (near c h m fits r)) (λ _. went~ (near c h m fits r))
 
-      itemLr~ : {top : Node A B} {w : World A B} {P : Holds} → Quiet (top ∷ w) P (itemLr A source i) (itemLr B source j)
+      itemLr~ : {top : Level A B} {w : World A B} {P : Holds} → Quiet (top ∷ w) P (itemLr A source i) (itemLr B source j)
       unfolding itemLr
       itemLr~ _ _ h = from~ (start~ SyntaxKind.ItemLR h ▸ clauseLr~ ⨾ itemList~ Scope.LR ⨾ rightClause~ ⨾ finish~ ⨾ done~)
 
-      script~ : (hasScript : Bool) (l : Marked) {k : ℕ} {f : A .Frame} {g : B .Frame} {w : World A B}
-          → Keeps Skip May (Near Z (node k l f g ∷ w) (Among l)) (Near Z (node k [] f g ∷ w) (Among l)) (script A source i hasScript) (script B source j hasScript)
+      script~ : (hasScript : Bool) (l : Marked) {n : Node A B} {w : World A B}
+          → Keeps Skip May (Near Z (n ◂ l ∷ w) (Among l)) (Near Z (n ◂ [] ∷ w) (Among l)) (script A source i hasScript) (script B source j hasScript)
       unfolding script
-      script~ true l {k} {f} {g} {w} p q h = steps~ (trivia~ ⨾ (λ p q h. weaker~ (λ p q. settled) (inner true [] l k f g w p q h)) ⨾ done~) p q h
+      script~ true l {n} {w} p q h = steps~ (trivia~ ⨾ (λ p q h. weaker~ (λ p q. settled) (inner true [] l n w p q h)) ⨾ done~) p q h
       script~ false l p q h = went~ (forget~ (sub-nil l) h)
 
-      attachmentNode~ : (hasScript : Bool) (l : Marked) {f : A .Frame} {g : B .Frame} {top : Node A B} {w : World A B}
-          → Keeps Skip May (Near Z (node SyntaxKind.ItemAttachComponent l f g ∷ top ∷ w) (Among l)) (Near Z (top ∷ w) (Among l)) (attachmentNode A source i hasScript f) (attachmentNode B source j hasScript g)
+      attachmentNode~ : (hasScript : Bool) (l : Marked) {f : A .Frame} {g : B .Frame} {top : Level A B} {w : World A B}
+          → Keeps Skip May (Near Z (node SyntaxKind.ItemAttachComponent f g ◂ l ∷ top ∷ w) (Among l)) (Near Z (top ∷ w) (Among l)) (attachmentNode A source i hasScript f) (attachmentNode B source j hasScript g)
       unfolding attachmentNode
       attachmentNode~ hasScript l = steps~ (eat~ ⨾ script~ hasScript l ⨾ finish~ ⨾ done~)
 
-      module _ (front l : Marked) (k : ℕ) (f : A .Frame) (g : B .Frame) (w : World A B) where
+      module _ (front l : Marked) (n : Node A B) (w : World A B) where
         -- what was there before an item
         abbrev Before : At A → At B → Type 0
-        Before = Near Z (node k (front ++ l) f g ∷ w) (Among l)
+        Before = Near Z (n ◂ (front ++ l) ∷ w) (Among l)
 
         -- an item at whose marks nothing was wrapped, whether it may carry a script or not
-        plain~ : (t : Bool) {o : Out (At A)} {u : Out (At B)} → O Before o u → O (Behind t front l k f g w) o u
+        plain~ : (t : Bool) {o : Out (At A)} {u : Out (At B)} → O Before o u → O (Behind t front l n w) o u
         plain~ t o = weaker~ (λ p q. unmoved t) o
 
         -- an item that wraps may carry none
-        wrapped~ : {t : Bool} {less : Marked} {o : Out (At A)} {u : Out (At B)} → t ≡ false → Sub less l → O (Near Z (node k less f g ∷ w) (Among less)) o u → O (Behind t front l k f g w) o u
+        wrapped~ : {t : Bool} {less : Marked} {o : Out (At A)} {u : Out (At B)} → t ≡ false → Sub less l → O (Near Z (n ◂ less ∷ w) (Among less)) o u → O (Behind t front l n w) o u
         wrapped~ {less} e sub o = rw e (weaker~ (λ p q h. behind less sub h) o)
 
-        commandOf~ : (s : Shape) → Keeps Skip May Before (Behind (attachableCommand s) front l k f g w) (commandOf A source i s) (commandOf B source j s)
+        commandOf~ : (s : Shape) → Keeps Skip May Before (Behind (attachableCommand s) front l n w) (commandOf A source i s) (commandOf B source j s)
         unfolding commandOf
         commandOf~ s _ _ (near c h m among r) =
             let here = near c h m among r in
@@ -443,10 +443,10 @@ module _ {A B : Builder} {Skip May : ℕ → Type 0} (Z : Sim A B Skip May) wher
 
         attachTo~ : (hasScript : Bool) (s : Scope) (first last : Option (A .Mark × B .Mark)) (c : Cursor) (h : ℕ) {a : A .State} {b : B .State}
             → Sub (listed last ++ listed first) l
-            → Z .R (node k (front ++ l) f g ∷ w) a b
-            → O (Behind false front l k f g w)
-            (attachTo A source i hasScript (lefts last) (record { lexer = c; held = h; list = record { scope = s; start = lefts first; last = lefts last }; built = a }))
-            (attachTo B source j hasScript (rights last) (record { lexer = c; held = h; list = record { scope = s; start = rights first; last = rights last }; built = b }))
+            → Z .R (n ◂ (front ++ l) ∷ w) a b
+            → O (Behind false front l n w)
+            (attachTo A source i hasScript (lefts last) (leftAt c h (record { scope = s; start = first; last = last }) a))
+            (attachTo B source j hasScript (rights last) (rightAt c h (record { scope = s; start = first; last = last }) b))
         unfolding attachTo
         attachTo~ hasScript s first (some x) c h among r =
             wrapped~ refl among
@@ -458,10 +458,10 @@ module _ {A B : Builder} {Skip May : ℕ → Type 0} (Z : Sim A B Skip May) wher
 
         -- ---- any item
 
-        readItem~ : (single : Bool) (what : Item) (kind : ℕ) (c : Cursor) (h : ℕ) (m : Marks (A .Mark) (B .Mark)) {a : A .State} {b : B .State} → Among l m → Z .R (node k (front ++ l) f g ∷ w) a b
-            → O (Behind (attachableItem what kind (source .shape (c .token))) front l k f g w)
-            (readItem A source i single what (record { lexer = c; held = h; list = leftList m; built = a }))
-            (readItem B source j single what (record { lexer = c; held = h; list = rightList m; built = b }))
+        readItem~ : (single : Bool) (what : Item) (kind : ℕ) (c : Cursor) (h : ℕ) (m : Marks (A .Mark) (B .Mark)) {a : A .State} {b : B .State} → Among l m → Z .R (n ◂ (front ++ l) ∷ w) a b
+            → O (Behind (attachableItem what kind (source .shape (c .token))) front l n w)
+            (readItem A source i single what (leftAt c h m a))
+            (readItem B source j single what (rightAt c h m b))
         unfolding readItem attachComponent
         readItem~ single plain kind c h m among r = plain~ _ (eat~ _ _ (near c h m among r))
         readItem~ single error kind c h m among r = plain~ true (oneIn~ SyntaxKind.TokenError _ _ (near c h m among r))
@@ -474,30 +474,30 @@ module _ {A B : Builder} {Skip May : ℕ → Type 0} (Z : Sim A B Skip May) wher
         readItem~ single leftRight kind c h m among r = plain~ true (itemLr~ _ _ (near c h m among r))
         readItem~ single (skipped kind′) kind c h m among r = plain~ true (skippedBody~ kind′ _ _ (near c h m among r))
 
-        contentIf~ : (t single : Bool) (c : Cursor) (h : ℕ) (m : Marks (A .Mark) (B .Mark)) {a : A .State} {b : B .State} → Among l m → Z .R (node k (front ++ l) f g ∷ w) a b
-            → O (Behind (attachable (kindAt (source .tokens) (c .token)) (source .shape (c .token))) front l k f g w)
-            (contentFor A source i (cond t (some (kindAt (source .tokens) (c .token))) none) single (record { lexer = c; held = h; list = leftList m; built = a }))
-            (contentFor B source j (cond t (some (kindAt (source .tokens) (c .token))) none) single (record { lexer = c; held = h; list = rightList m; built = b }))
+        contentIf~ : (t single : Bool) (c : Cursor) (h : ℕ) (m : Marks (A .Mark) (B .Mark)) {a : A .State} {b : B .State} → Among l m → Z .R (n ◂ (front ++ l) ∷ w) a b
+            → O (Behind (attachable (kindAt (source .tokens) (c .token)) (source .shape (c .token))) front l n w)
+            (contentFor A source i (cond t (some (kindAt (source .tokens) (c .token))) none) single (leftAt c h m a))
+            (contentFor B source j (cond t (some (kindAt (source .tokens) (c .token))) none) single (rightAt c h m b))
         unfolding attachable
         contentIf~ true single c h m among r = readItem~ single (itemOf (kindAt (source .tokens) (c .token))) (kindAt (source .tokens) (c .token)) c h m among r
         contentIf~ false single c h m among r = went~ (unmoved _ (near c h m among r))
 
       content~ : Inner (content A source i) (content B source j)
       unfolding content peek
-      content~ single front l k f g w _ _ (near c h m among r) = contentIf~ front l k f g w (ltb (c .token) (tokenCount (source .tokens))) single c h m among r
+      content~ single front l n w _ _ (near c h m among r) = contentIf~ front l n w (ltb (c .token) (tokenCount (source .tokens))) single c h m among r
 
     tooDeep~ : {w : World A B} {P : Holds} {p : At A} {q : At B} {Q : At A → At B → Type 0} → Near Z w P p q → O Q (refused tooManyOpen (place A p)) (refused tooManyOpen (place B q))
     tooDeep~ (near c h m fits r) = refused~ tooManyOpen (c .token) (Z .deep)
 
     contentAt~ : (d : ℕ) → Inner (contentAt A source d) (contentAt B source d)
     unfolding contentAt
-    contentAt~ zero = λ single front l k f g w p q h. tooDeep~ h
+    contentAt~ zero = λ single front l n w p q h. tooDeep~ h
     contentAt~ (suc d) = content~ (contentAt~ d)
 
     abbrev AtRoot : Holds
     AtRoot m = m ≡ record { scope = Scope.Root; start = none; last = none }
 
-    ended~ : {live : Marked} {f : A .Frame} {g : B .Frame} → Keeps Skip May (Near Z (node SyntaxKind.ScopeRoot live f g ∷ []) AtRoot) (Ended Z) (finish A SyntaxKind.ScopeRoot f) (finish B SyntaxKind.ScopeRoot g)
+    ended~ : {live : Marked} {f : A .Frame} {g : B .Frame} → Keeps Skip May (Near Z (node SyntaxKind.ScopeRoot f g ◂ live ∷ []) AtRoot) (Ended Z) (finish A SyntaxKind.ScopeRoot f) (finish B SyntaxKind.ScopeRoot g)
     ended~ _ _ (near c h m fits r) = rw fits (bind~ (Z .ends (c .token) r) (λ a b whole. went~ (ended c h whole)))
 
     -- related builders at the start: related runs
