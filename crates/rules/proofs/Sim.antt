@@ -9,7 +9,7 @@ use Rattle.rules.specs.Builder.{Builder, Leaf}
 use Rattle.rules.specs.Outcome.{greedyEnvironment, tooManyOpen}
 use Rattle.rules.specs.Cursor.{Cursor}
 use Rattle.rules.specs.Position.{ListState, Pos}
-use Rattle.rules.specs.Scope.{Scope}
+use Rattle.rules.specs.Scope.{Scope, Root}
 use Rattle.rules.specs.SyntaxKind.{ScopeRoot}
 use Rattle.rules.proofs.Related.{OutRel}
 
@@ -70,9 +70,20 @@ module _ {M N : Type 0} where
   abbrev pub marksOf : Marks M N → List (M × N)
   marksOf m = listed (m .last) ++ listed (m .start)
 
+  pub start-of : (m : Marks M N) → Sub (listed (m .start)) (marksOf m)
+  start-of m = sub-behind (listed (m .last)) (listed (m .start))
+
+  -- the start as it was, and no last
+  abbrev pub startOnly : Marks M N → Scope → Marks M N
+  startOnly m s = record { scope = s; start = m .start; last = none }
+
   -- the marks are among these, in this order
   abbrev pub Among : List (M × N) → Marks M N → Type 0
   Among l m = Sub (marksOf m) l
+
+  -- outside all lists
+  abbrev pub atRoot : Marks M N
+  atRoot = record { scope = Root; start = none; last = none }
 
 -- where both sides stand: at the same token, holding the same tokens
 module _ {M N : Type 0} where

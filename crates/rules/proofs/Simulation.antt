@@ -23,7 +23,7 @@ use Rattle.rules.specs.SyntaxKind
 use Rattle.rules.specs.Tables.{kindAt, tokenCount}
 use Rattle.rules.specs.Token
 use Rattle.rules.proofs.Related.{OutRel, went~, refused~, Keeps, done~, _⨾_, goes, _▸_, bind~, weaker~, cond~, steps~, from~}
-use Rattle.rules.proofs.Sim.{Sub, nil, keep, sub-nil, sub-refl, sub-behind, sub-trans, lefts, rights, listed, Marks, leftList, rightList, leftAt, rightAt, Among, Node, Level, World, node, _◂_, innermost, opening, Sim}
+use Rattle.rules.proofs.Sim.{Sub, nil, keep, sub-nil, sub-refl, sub-behind, sub-trans, lefts, rights, listed, Marks, leftList, rightList, start-of, startOnly, atRoot, leftAt, rightAt, Among, Node, Level, World, node, _◂_, innermost, opening, Sim}
 
 -- held trivia that are dropped do not touch a node
 dropFrom-frame : (C : Builder) (source : Source) → ((token reason : ℕ) (c : C .State) → C .frame (C .drop token reason c) ≡ C .frame c)
@@ -44,7 +44,7 @@ pub data Near {A B : Builder} {Skip May : ℕ → Type 0} (Z : Sim A B Skip May)
 pub data Ended {A B : Builder} {Skip May : ℕ → Type 0} (Z : Sim A B Skip May) : At A → At B → Type 0 where
   ended : (c : Cursor) (h : ℕ) {a : A .State} {b : B .State}
       → Z .Whole a b
-      → Ended Z (record { lexer = c; held = h; list = record { scope = Scope.Root; start = none; last = none }; built = a }) (record { lexer = c; held = h; list = record { scope = Scope.Root; start = none; last = none }; built = b })
+      → Ended Z (leftAt {N = B .Mark} c h atRoot a) (rightAt {M = A .Mark} c h atRoot b)
 
 module _ {A B : Builder} {Skip May : ℕ → Type 0} (Z : Sim A B Skip May) where
   abbrev Marked : Type 0
@@ -237,7 +237,7 @@ module _ {A B : Builder} {Skip May : ℕ → Type 0} (Z : Sim A B Skip May) wher
       -- last becomes the mark before the item, if it may carry a script
       lasts : (t : Bool) (x : A .Mark × B .Mark) {l : Marked} {p : At A} {q : At B} → Behind t (x ∷ []) l n w p q
           → Listing n w (withMarks A (p .list .start) (cond t (some (x .0)) (p .list .last)) p) (withMarks B (q .list .start) (cond t (some (x .1)) (q .list .last)) q)
-      lasts true x (behind less sub (near c h m among r)) = listing (x ∷ less) (near c h (record { scope = m .scope; start = m .start; last = some x }) (keep (sub-trans (sub-behind (listed (m .last)) (listed (m .start))) among)) r)
+      lasts true x (behind less sub (near c h m among r)) = listing (x ∷ less) (near c h (record { scope = m .scope; start = m .start; last = some x }) (keep (sub-trans (start-of m) among)) r)
       lasts false x (behind less sub (near c h m among r)) = listing less (near c h m among r)
 
       -- a new list, with a new mark as its start
@@ -316,12 +316,12 @@ module _ {A B : Builder} {Skip May : ℕ → Type 0} (Z : Sim A B Skip May) wher
 
       -- behind arguments the start is as it was, and there is no last
       abbrev Around : Holds → Holds → Type 0
-      Around P P′ = (m : Marks (A .Mark) (B .Mark)) → P m → (s : Scope) → P′ (record { scope = s; start = m .start; last = none })
+      Around P P′ = (m : Marks (A .Mark) (B .Mark)) → P m → (s : Scope) → P′ (startOnly m s)
 
       matchArguments~ : (m : Matcher) {top : Level A B} {w : World A B} {P P′ : Holds} → Around P P′ → Keeps Skip May (Near Z (top ∷ w) P) (Near Z (top ∷ w) P′) (matchArguments A source i m) (matchArguments B source j m)
       unfolding matchArguments
       matchArguments~ m around _ _ (near c h marks fits r) =
-          from~ (went~ (near c (c .token) (record { scope = marks .scope; start = none; last = none }) nil r) ▸ allArguments~ m ⨾ relist~ (λ s. record { scope = s; start = marks .start; last = none }) (around marks fits) ⨾ done~)
+          from~ (went~ (near c (c .token) (record { scope = marks .scope; start = none; last = none }) nil r) ▸ allArguments~ m ⨾ relist~ (startOnly marks) (around marks fits) ⨾ done~)
 
       anew~ : {n : Node A B} {live : Marked} {w : World A B} {P : Holds}
           → Keeps Skip May (Near Z (n ◂ live ∷ w) P) (Listing n w) (λ p. went (withMarks A (some (A .mark (p .built))) none p)) (λ q. went (withMarks B (some (B .mark (q .built))) none q))
@@ -330,7 +330,7 @@ module _ {A B : Builder} {Skip May : ℕ → Type 0} (Z : Sim A B Skip May) wher
       greedyArgument~ : {top : Level A B} {w : World A B} {P P′ : Holds} → Around P P′ → Keeps Skip May (Near Z (top ∷ w) P) (Near Z (top ∷ w) P′) (greedyArgument A source i) (greedyArgument B source j)
       unfolding greedyArgument
       greedyArgument~ {P} around _ _ (near c h marks fits r) =
-          from~ (start~ SyntaxKind.ClauseArgument {P = P} (near c h marks fits r) ▸ anew~ ⨾ allItems~ greedyStops ⨾ relist~ (λ s. record { scope = s; start = marks .start; last = none }) (around marks fits) ⨾ finish~ ⨾ done~)
+          from~ (start~ SyntaxKind.ClauseArgument {P = P} (near c h marks fits r) ▸ anew~ ⨾ allItems~ greedyStops ⨾ relist~ (startOnly marks) (around marks fits) ⨾ finish~ ⨾ done~)
 
       -- ---- commands
 
@@ -342,7 +342,7 @@ module _ {A B : Builder} {Skip May : ℕ → Type 0} (Z : Sim A B Skip May) wher
 
       -- among marks, the start alone is too
       around-among : (l : Marked) → Around (Among l) (Among l)
-      around-among l m among s = sub-trans (sub-behind (listed (m .last)) (listed (m .start))) among
+      around-among l m among s = sub-trans (start-of m) among
 
       -- there is no start: what last is does not matter any more
       abbrev Startless : Holds
@@ -434,9 +434,10 @@ module _ {A B : Builder} {Skip May : ℕ → Type 0} (Z : Sim A B Skip May) wher
             (λ _. cond~ (eqb (s .form) formLeft1)
             (λ e. wrapped~ (rw e) among (from~ (left1~ (m .scope) (m .start) (m .last) c h (Z .forgets (sub-trans among (sub-behind front l)) r) ▸ commandNode~ (λ p q h. went~ h) ⨾ done~)))
             (λ d. cond~ (eqb (s .form) formInfixGreedy)
-            (λ e. wrapped~ (rw (d, e)) (sub-nil l)
-            (weaker~ (λ p q. forget~ (sub-nil _))
-            (from~ (goes refl refl (startCommandAt~ {P = Startless} (at-listed (m .start)) (near c h (record { scope = m .scope; start = none; last = m .last }) refl (Z .forgets (sub-trans (sub-trans (sub-behind (listed (m .last)) (listed (m .start))) among) (sub-behind front l)) r)) ▸ commandNode~ (greedyArgument~ (λ n e s. rw e nil)) ⨾ done~)))))
+            (λ e.
+            let here = near c h (record { scope = m .scope; start = none; last = m .last }) refl (Z .forgets (sub-trans (sub-trans (start-of m) among) (sub-behind front l)) r) in
+            let node = commandNode~ (greedyArgument~ (λ n e s. rw e nil)) in
+            wrapped~ (rw (d, e)) (sub-nil l) (weaker~ (λ p q. forget~ (sub-nil _)) (from~ (goes refl refl (startCommandAt~ {P = Startless} (at-listed (m .start)) here ▸ node ⨾ done~)))))
             (λ _. cond~ (isGreedy (startMatch (s .form) (s .value)))
             (λ _. plain~ _ (from~ (start~ SyntaxKind.ItemCmd here ▸ commandNode~ (greedyArgument~ (around-among l)) ⨾ done~)))
             (λ _. plain~ _ (from~ (start~ SyntaxKind.ItemCmd here ▸ commandNode~ (matchArguments~ _ (around-among l)) ⨾ extract~ ⨾ done~))))))
@@ -495,7 +496,7 @@ module _ {A B : Builder} {Skip May : ℕ → Type 0} (Z : Sim A B Skip May) wher
     contentAt~ (suc d) = content~ (contentAt~ d)
 
     abbrev AtRoot : Holds
-    AtRoot m = m ≡ record { scope = Scope.Root; start = none; last = none }
+    AtRoot m = m ≡ atRoot
 
     ended~ : {live : Marked} {f : A .Frame} {g : B .Frame} → Keeps Skip May (Near Z (node SyntaxKind.ScopeRoot f g ◂ live ∷ []) AtRoot) (Ended Z) (finish A SyntaxKind.ScopeRoot f) (finish B SyntaxKind.ScopeRoot g)
     ended~ _ _ (near c h m fits r) = rw fits (bind~ (Z .ends (c .token) r) (λ a b whole. went~ (ended c h whole)))
@@ -503,4 +504,4 @@ module _ {A B : Builder} {Skip May : ℕ → Type 0} (Z : Sim A B Skip May) wher
     -- related builders at the start: related runs
     pub simulation : {a : A .State} {b : B .State} → Z .R [] a b → OutRel Skip May (Ended Z) (parse A source a) (parse B source b)
     unfolding parse
-    simulation r = from~ (start~ SyntaxKind.ScopeRoot (near atStart 0 (record { scope = Scope.Root; start = none; last = none }) refl r) ▸ itemList~ (contentAt~ Limits.nodes) Scope.Root ⨾ ended~ ⨾ done~)
+    simulation r = from~ (start~ SyntaxKind.ScopeRoot (near atStart 0 atRoot refl r) ▸ itemList~ (contentAt~ Limits.nodes) Scope.Root ⨾ ended~ ⨾ done~)
