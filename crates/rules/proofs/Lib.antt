@@ -1,4 +1,10 @@
 -- Theorems about the rules alone, and the laws by which other crates use their definitions.
+pub mod Alike
 pub mod Characters
 pub mod Flat
+pub mod Related
+pub mod Render
+pub mod Room
+pub mod Sim
+pub mod Simulation
 pub mod Table

@@ -1,0 +1,507 @@
+-- Runs of related builders are related: one law a routine, and the theorem over `parse`. Positions on both sides stand at the same token, hold the same
+-- tokens, and keep marks at the same places. Assumes nothing.
+use Prim.Native.Nat.{ℕ, zero, suc, _+_, _-_}
+use mathlib.Core.Path.{_≡_, refl, _∙_}
+use mathlib.Core.Bool.{Bool, true, false, cond}
+use mathlib.Core.List.{List, [], _∷_, _++_}
+use mathlib.Core.Option.{Option, none, some}
+use lib.Dec.{eqb, ltb}
+use Rattle.rules.specs.Builder.{Builder, Leaf}
+use Rattle.rules.specs.Cursor.{Cursor, atStart, peek, eaten, consumed, left}
+use Rattle.rules.specs.Items.{Item, plain, error, word, comma, group, attachment, command, environment, leftRight, skipped, itemOf, attachableItem, isCommandName, isIf, attachable, groupKind, closer, Piece, character, within, brace, item, Choice, ends, holds, takes, choose, greedyStops, nameOnly, attachableCommand, classCommand, classEnvironment, ofClass}
+use Rattle.rules.specs.Flat.{reasonTrivia, reasonOpener, reasonCloser}
+use Rattle.rules.specs.Kinds.{isTrivia, isTextComponent}
+use Rattle.rules.specs.Limits
+use Rattle.rules.specs.Matcher.{Matcher, startMatch, isGreedy, formLeft1, formInfixGreedy}
+use Rattle.rules.specs.Outcome.{Out, went, refused, bind, greedyEnvironment, tooManyOpen}
+use Rattle.rules.specs.Position.{Shape, Source, At, place, asked, withLexer, withList, withMarks, holdingNone, leaf, start, startAt, finish, wrap}
+use Rattle.rules.specs.Reading.{orElse, items, itemList, itemGroup, piece, argument, chosen, choiceFor, arguments, matchArguments, greedyArgument, commandNode, commandOf, environmentArguments, beginClause, endClause, environmentItem, rightClause, itemLr, script, attachmentNode, attachTo, attachComponent, readItem, contentFor, content, contentAt, parse}
+use Rattle.rules.specs.Routines.{eatAs, eat, eatIf, eatWhile, turns, trivia, singleChar, oneIn, dropFrom, ignoreHoldingTrivia, leavesFrom, extractHoldingTrivia, text, delimiterOf, delimiter, clauseLr, dropNext, eatBodyOfIfs, skippedBody, startCommandAt}
+use Rattle.rules.specs.Scope
+use Rattle.rules.specs.Scope.{Scope, stops}
+use Rattle.rules.specs.SyntaxKind
+use Rattle.rules.specs.Tables.{kindAt, tokenCount}
+use Rattle.rules.specs.Token
+use Rattle.rules.proofs.Related.{OutRel, went~, refused~, Keeps, done~, _⨾_, goes, _▸_, bind~, weaker~, cond~, steps~, from~}
+use Rattle.rules.proofs.Sim.{Sub, nil, keep, sub-nil, sub-refl, sub-behind, sub-trans, lefts, rights, listed, Marks, leftList, rightList, start-of, startOnly, atRoot, leftAt, rightAt, Among, Node, Level, World, node, _◂_, innermost, opening, Sim}
+
+-- held trivia that are dropped do not touch a node
+dropFrom-frame : (C : Builder) (source : Source) → ((token reason : ℕ) (c : C .State) → C .frame (C .drop token reason c) ≡ C .frame c)
+    → (n i : ℕ) (c : C .State)
+    → C .frame (dropFrom C source n i c) ≡ C .frame c
+unfolding dropFrom
+dropFrom-frame C source same zero i c = refl
+dropFrom-frame C source same (suc n) i c = dropFrom-frame C source same n (i + 1) (C .drop i reasonTrivia c) ∙ same i reasonTrivia c
+
+-- positions over related states, with marks of which P holds
+pub data Near {A B : Builder} {Skip May : ℕ → Type 0} (Z : Sim A B Skip May) (w : World A B) (P : Marks (A .Mark) (B .Mark) → Type 0) : At A → At B → Type 0 where
+  near : (c : Cursor) (h : ℕ) (m : Marks (A .Mark) (B .Mark)) {a : A .State} {b : B .State}
+      → P m
+      → Z .R w a b
+      → Near Z w P (leftAt c h m a) (rightAt c h m b)
+
+-- positions at the end of a run: the same token, outside all lists, and what was built is related as a whole
+pub data Ended {A B : Builder} {Skip May : ℕ → Type 0} (Z : Sim A B Skip May) : At A → At B → Type 0 where
+  ended : (c : Cursor) (h : ℕ) {a : A .State} {b : B .State}
+      → Z .Whole a b
+      → Ended Z (leftAt {N = B .Mark} c h atRoot a) (rightAt {M = A .Mark} c h atRoot b)
+
+module _ {A B : Builder} {Skip May : ℕ → Type 0} (Z : Sim A B Skip May) where
+  abbrev Marked : Type 0
+  Marked = List (A .Mark × B .Mark)
+
+  abbrev Holds : Type 1
+  Holds = Marks (A .Mark) (B .Mark) → Type 0
+
+  abbrev O : {X Y : Type 0} → (X → Y → Type 0) → Out X → Out Y → Type 0
+  O Q = OutRel Skip May Q
+
+  -- ---- the builder's operations, at positions
+
+  op~ : {v : World A B} {P : Holds} {o : Out (A .State)} {u : Out (B .State)} (c : Cursor) (h : ℕ) (m : Marks (A .Mark) (B .Mark)) → P m → O (Z .R v) o u
+      → O (Near Z v P) (bind o (λ a. went (leftAt c h m a))) (bind u (λ b. went (rightAt c h m b)))
+  op~ c h m fits o = bind~ o (λ x y r. went~ (near c h m fits r))
+
+  start~ : (kind : ℕ) {w : World A B} {P : Holds} {p : At A} {q : At B} → Near Z w P p q → O (Near Z (opening A B kind (p .built) (q .built) ◂ innermost w ∷ w) P) (start A kind p) (start B kind q)
+  start~ kind (near c h m fits r) = op~ c h m fits (Z .starts (c .token) kind r)
+
+  startAs~ : (kind : ℕ) {w : World A B} {P : Holds} {p : At A} {q : At B} {f : A .Frame} {g : B .Frame} → Near Z w P p q → A .frame (p .built) ≡ f → B .frame (q .built) ≡ g
+      → O (Near Z (node kind f g ◂ innermost w ∷ w) P) (start A kind p) (start B kind q)
+  startAs~ kind h e d = rw (e, d) at (start~ kind h)
+
+  startAt~ : (kind : ℕ) {n : Node A B} {x : A .Mark × B .Mark} {older : Marked} {w : World A B} {P : Holds} {p : At A} {q : At B} → Near Z (n ◂ (x ∷ older) ∷ w) P p q
+      → O (Near Z (opening A B kind (p .built) (q .built) ◂ (x ∷ older) ∷ n ◂ (x ∷ older) ∷ w) P) (startAt A kind (x .0) p) (startAt B kind (x .1) q)
+  startAt~ kind (near c h m fits r) = op~ c h m fits (Z .startAts (c .token) kind r)
+
+  finish~ : {n : Node A B} {live : Marked} {top : Level A B} {w : World A B} {P : Holds} → Keeps Skip May (Near Z (n ◂ live ∷ top ∷ w) P) (Near Z (top ∷ w) P) (finish A (n .kind) (n .left)) (finish B (n .kind) (n .right))
+  finish~ _ _ (near c h m fits r) = op~ c h m fits (Z .finishes (c .token) r)
+
+  -- a wrap, at the newest mark
+  wrap~ : (kind : ℕ) {n : Node A B} {x : A .Mark × B .Mark} {older : Marked} {w : World A B} {P : Holds} {p : At A} {q : At B} → Near Z (n ◂ (x ∷ older) ∷ w) P p q
+      → O (Near Z (opening A B kind (p .built) (q .built) ◂ (x ∷ older) ∷ n ◂ (x ∷ older) ∷ w) P) (wrap A kind (x .0) p) (wrap B kind (x .1) q)
+  unfolding wrap
+  wrap~ kind h = bind~ (startAt~ kind h) (λ p₁ q₁ h₁. bind~ (startAt~ SyntaxKind.ClauseArgument h₁) finish~)
+
+  -- the reader is moved
+  moved~ : (to : Cursor → Cursor) {w : World A B} {P : Holds} → Keeps Skip May (Near Z w P) (Near Z w P) (λ p. went (withLexer A (to (p .lexer)) p)) (λ q. went (withLexer B (to (q .lexer)) q))
+  moved~ to _ _ (near c h m fits r) = went~ (near (to c) h m fits r)
+
+  forget~ : {n : Node A B} {less live : Marked} {w : World A B} {P : Holds} {p : At A} {q : At B} → Sub less live → Near Z (n ◂ live ∷ w) P p q → Near Z (n ◂ less ∷ w) P p q
+  forget~ s (near c h m fits r) = near c h m fits (Z .forgets s r)
+
+  -- ---- routines without an item inside
+
+  -- whatever is open and whatever marks are kept, a routine leaves it so
+  abbrev Quiet : World A B → Holds → (At A → Out (At A)) → (At B → Out (At B)) → Type 0
+  Quiet w P f g = Keeps Skip May (Near Z w P) (Near Z w P) f g
+
+  module _ (source : Source) where
+    -- whether a next token is there whose kind passes a test
+    abbrev sees : (ℕ → Bool) → Cursor → Bool
+    sees test c = asked test (peek (source .tokens) c)
+
+    leaf~ : {top : Level A B} {w : World A B} {P : Holds} (l : Leaf) → Quiet (top ∷ w) P (leaf A l) (leaf B l)
+    leaf~ l _ _ (near c h m fits r) = op~ c h m fits (Z .leafs (c .token) l r)
+
+    eatAs~ : {top : Level A B} {w : World A B} {P : Holds} (kind : ℕ) → Quiet (top ∷ w) P (eatAs A source kind) (eatAs B source kind)
+    unfolding eatAs
+    eatAs~ kind _ _ (near c h m fits r) = bind~ (leaf~ _ _ _ (near c h m fits r)) (moved~ eaten)
+
+    eat~ : {top : Level A B} {w : World A B} {P : Holds} → Quiet (top ∷ w) P (eat A source) (eat B source)
+    unfolding eat
+    eat~ _ _ (near c h m fits r) = eatAs~ _ _ _ (near c h m fits r)
+
+    eatIf~ : {top : Level A B} {w : World A B} {P : Holds} (kind : ℕ) → Quiet (top ∷ w) P (eatIf A source kind) (eatIf B source kind)
+    unfolding eatIf
+    eatIf~ kind _ _ (near c h m fits r) = cond~ (sees (eqb kind) c) (λ _. eat~ _ _ (near c h m fits r)) (λ _. went~ (near c h m fits r))
+
+    eatWhile~ : {top : Level A B} {w : World A B} {P : Holds} (test : ℕ → Bool) (turns : ℕ) → Quiet (top ∷ w) P (eatWhile A source test turns) (eatWhile B source test turns)
+    unfolding eatWhile
+    eatWhile~ test zero _ _ h = went~ h
+    eatWhile~ test (suc n) _ _ (near c h m fits r) = cond~ (sees test c) (λ _. bind~ (eat~ _ _ (near c h m fits r)) (eatWhile~ test n)) (λ _. went~ (near c h m fits r))
+
+    eatAll~ : {top : Level A B} {w : World A B} {P : Holds} (test : ℕ → Bool) → Quiet (top ∷ w) P (λ p. eatWhile A source test (turns A source p) p) (λ q. eatWhile B source test (turns B source q) q)
+    eatAll~ test _ _ (near c h m fits r) = eatWhile~ test _ _ _ (near c h m fits r)
+
+    trivia~ : {top : Level A B} {w : World A B} {P : Holds} → Quiet (top ∷ w) P (trivia A source) (trivia B source)
+    unfolding trivia
+    trivia~ = eatAll~ isTrivia
+
+    singleChar~ : {top : Level A B} {w : World A B} {P : Holds} → Quiet (top ∷ w) P (singleChar A source) (singleChar B source)
+    unfolding singleChar
+    singleChar~ _ _ (near c h m fits r) = bind~ (leaf~ _ _ _ (near c h m fits r)) (moved~ (consumed (source .tokens) _))
+
+    oneIn~ : (kind : ℕ) {top : Level A B} {w : World A B} {P : Holds} → Quiet (top ∷ w) P (oneIn A source kind) (oneIn B source kind)
+    unfolding oneIn
+    oneIn~ kind _ _ h = from~ (start~ kind h ▸ eat~ ⨾ finish~ ⨾ done~)
+
+    -- ---- held trivia
+
+    dropFrom~ : (n i : ℕ) {w : World A B} {a : A .State} {b : B .State} → Z .R w a b → Z .R w (dropFrom A source n i a) (dropFrom B source n i b)
+    unfolding dropFrom
+    dropFrom~ zero i r = r
+    dropFrom~ (suc n) i r = dropFrom~ n (i + 1) (Z .drops i reasonTrivia r)
+
+    leavesFrom~ : (n i : ℕ) {top : Level A B} {w : World A B} {P : Holds} → Quiet (top ∷ w) P (leavesFrom A source n i) (leavesFrom B source n i)
+    unfolding leavesFrom
+    leavesFrom~ zero i _ _ h = went~ h
+    leavesFrom~ (suc n) i _ _ h = bind~ (leaf~ _ _ _ h) (leavesFrom~ n (i + 1))
+
+    -- nothing is held
+    heldNone~ : {top : Level A B} {w : World A B} {P : Holds} → Quiet (top ∷ w) P (λ p. went (holdingNone A p)) (λ q. went (holdingNone B q))
+    heldNone~ _ _ (near c h m fits r) = went~ (near c (c .token) m fits r)
+
+    extract~ : {top : Level A B} {w : World A B} {P : Holds} → Quiet (top ∷ w) P (extractHoldingTrivia A source) (extractHoldingTrivia B source)
+    unfolding extractHoldingTrivia
+    extract~ _ _ (near c h m fits r) = bind~ (leavesFrom~ (c .token - h) h _ _ (near c h m fits r)) heldNone~
+
+    -- ---- items without an item inside
+
+    text~ : {top : Level A B} {w : World A B} {P : Holds} → Quiet (top ∷ w) P (text A source) (text B source)
+    unfolding text
+    text~ _ _ h = from~ (start~ SyntaxKind.ItemText h ▸ eat~ ⨾ eatAll~ isTextComponent ⨾ finish~ ⨾ done~)
+
+    delimiterOf~ : (o : Option ℕ) {top : Level A B} {w : World A B} {P : Holds} → Quiet (top ∷ w) P (delimiterOf A source o) (delimiterOf B source o)
+    delimiterOf~ none _ _ h = went~ h
+    delimiterOf~ (some kind) p q h =
+        cond~ (eqb kind Token.Generic) (λ _. eatAs~ SyntaxKind.TokenCommandSym p q h)
+        (λ _. cond~ (isCommandName kind) (λ _. went~ h)
+        (λ _. cond~ (eqb kind Token.Dollar) (λ _. went~ h)
+        (λ _. cond~ (eqb kind Token.Word) (λ _. singleChar~ p q h) (λ _. eat~ p q h))))
+
+    delimiter~ : {top : Level A B} {w : World A B} {P : Holds} → Quiet (top ∷ w) P (delimiter A source) (delimiter B source)
+    unfolding delimiter
+    delimiter~ _ _ (near c h m fits r) = delimiterOf~ (peek (source .tokens) c) _ _ (near c h m fits r)
+
+    clauseLr~ : {top : Level A B} {w : World A B} {P : Holds} → Quiet (top ∷ w) P (clauseLr A source) (clauseLr B source)
+    unfolding clauseLr
+    clauseLr~ _ _ h = from~ (start~ SyntaxKind.ClauseLR h ▸ eat~ ⨾ trivia~ ⨾ delimiter~ ⨾ finish~ ⨾ done~)
+
+    dropNext~ : (reason : ℕ) {top : Level A B} {w : World A B} {P : Holds} → Quiet (top ∷ w) P (dropNext A source reason) (dropNext B source reason)
+    unfolding dropNext
+    dropNext~ reason _ _ (near c h m fits r) = went~ (near (eaten c) h m fits (Z .drops (c .token) reason r))
+
+    eatBodyOfIfs~ : (n nested : ℕ) {top : Level A B} {w : World A B} {P : Holds} → Quiet (top ∷ w) P (eatBodyOfIfs A source n nested) (eatBodyOfIfs B source n nested)
+    unfolding eatBodyOfIfs
+    eatBodyOfIfs~ zero nested _ _ h = went~ h
+    eatBodyOfIfs~ (suc n) nested _ _ (near c h m fits r) =
+        let here = near c h m fits r in
+        cond~ (sees (eqb Token.EndIf) c)
+        (λ _. cond~ (eqb nested 0) (λ _. dropNext~ reasonCloser _ _ here) (λ _. bind~ (eat~ _ _ here) (eatBodyOfIfs~ n (nested - 1))))
+        (λ _. cond~ (sees isIf c) (λ _. bind~ (eat~ _ _ here) (eatBodyOfIfs~ n (nested + 1)))
+        (λ _. cond~ (sees (λ kind. true) c) (λ _. bind~ (eat~ _ _ here) (eatBodyOfIfs~ n nested)) (λ _. went~ here)))
+
+    body~ : {top : Level A B} {w : World A B} {P : Holds} → Quiet (top ∷ w) P (λ p. eatBodyOfIfs A source (turns A source p) 0 p) (λ q. eatBodyOfIfs B source (turns B source q) 0 q)
+    body~ _ _ (near c h m fits r) = eatBodyOfIfs~ _ 0 _ _ (near c h m fits r)
+
+    skippedBody~ : (kind : ℕ) {top : Level A B} {w : World A B} {P : Holds} → Quiet (top ∷ w) P (skippedBody A source kind) (skippedBody B source kind)
+    unfolding skippedBody
+    skippedBody~ kind _ _ h = from~ (start~ kind h ▸ dropNext~ reasonOpener ⨾ body~ ⨾ finish~ ⨾ done~)
+
+    -- ---- lists, and items inside
+
+    -- whether the item that begins here may carry a script
+    abbrev carries : At A → Bool
+    carries p = attachable (kindAt (source .tokens) (p .lexer .token)) (source .shape (p .lexer .token))
+
+    -- marks in front of others, where they are kept
+    abbrev kept : Bool → Marked → Marked → Marked
+    kept true front l = front ++ l
+    kept false front l = l
+
+    -- behind an item: the marks are among some of those before it, which may still be used, and those in front too if the item may carry a script
+    data Behind (t : Bool) (front l : Marked) (n : Node A B) (w : World A B) (p : At A) (q : At B) : Type 0 where
+      behind : (less : Marked) → Sub less l → Near Z (n ◂ (kept t front less) ∷ w) (Among less) p q → Behind t front l n w p q
+
+    -- what reads an item inside a node: with marks among `l`, all of which may be used, and more in front
+    abbrev Inner : (Bool → At A → Out (At A)) → (Bool → At B → Out (At B)) → Type 0
+    Inner i j = (single : Bool) (front l : Marked) (n : Node A B) (w : World A B) (p : At A) (q : At B)
+        → Near Z (n ◂ (front ++ l) ∷ w) (Among l) p q
+        → O (Behind (carries p) front l n w) (i single p) (j single q)
+
+    -- in a list: its marks are among those that may be used
+    data Listing (n : Node A B) (w : World A B) (p : At A) (q : At B) : Type 0 where
+      listing : (l : Marked) → Near Z (n ◂ l ∷ w) (Among l) p q → Listing n w p q
+
+    module _ {n : Node A B} {w : World A B} where
+      settled : {t : Bool} {front l : Marked} {p : At A} {q : At B} → Behind t front l n w p q → Near Z (n ◂ [] ∷ w) (Among l) p q
+      settled (behind less sub (near c h m among r)) = near c h m (sub-trans among sub) (Z .forgets (sub-nil _) r)
+
+      unmoved : (t : Bool) {front l : Marked} {p : At A} {q : At B} → Near Z (n ◂ (front ++ l) ∷ w) (Among l) p q → Behind t front l n w p q
+      unmoved true {l} h = behind l (sub-refl l) h
+      unmoved false {front} {l} h = behind l (sub-refl l) (forget~ (sub-behind front l) h)
+
+      closed : {p : At A} {q : At B} → Listing n w p q → Near Z (n ◂ [] ∷ w) (λ m. Unit {0}) p q
+      closed (listing l (near c h m among r)) = near c h m tt (Z .forgets (sub-nil l) r)
+
+      -- last becomes the mark before the item, if it may carry a script
+      lasts : (t : Bool) (x : A .Mark × B .Mark) {l : Marked} {p : At A} {q : At B} → Behind t (x ∷ []) l n w p q
+          → Listing n w (withMarks A (p .list .start) (cond t (some (x .0)) (p .list .last)) p) (withMarks B (q .list .start) (cond t (some (x .1)) (q .list .last)) q)
+      lasts true x (behind less sub (near c h m among r)) = listing (x ∷ less) (near c h (record { scope = m .scope; start = m .start; last = some x }) (keep (sub-trans (start-of m) among)) r)
+      lasts false x (behind less sub (near c h m among r)) = listing less (near c h m among r)
+
+      -- a new list, with a new mark as its start
+      fresh : (s : Scope) (c : Cursor) (h : ℕ) {live : Marked} {a : A .State} {b : B .State} → Z .R (n ◂ live ∷ w) a b
+          → Listing n w (leftAt c h (record { scope = s; start = some (A .mark a, B .mark b); last = none }) a) (rightAt c h (record { scope = s; start = some (A .mark a, B .mark b); last = none }) b)
+      fresh s c h {live} {a} {b} r =
+          listing ((A .mark a, B .mark b) ∷ []) (near c h (record { scope = s; start = some (A .mark a, B .mark b); last = none }) (sub-refl _) (Z .forgets (keep (sub-nil live)) (Z .marks r)))
+
+    -- other marks are put in
+    relist~ : (to : Scope → Marks (A .Mark) (B .Mark)) {w : World A B} {P P′ : Holds} → ((s : Scope) → P′ (to s))
+        → Keeps Skip May (Near Z w P) (Near Z w P′) (λ p. went (withList A (leftList (to (p .list .scope))) p)) (λ q. went (withList B (rightList (to (q .list .scope))) q))
+    relist~ to fits′ _ _ (near c h m fits r) = went~ (near c h (to (m .scope)) (fits′ (m .scope)) r)
+
+    module _ {i : Bool → At A → Out (At A)} {j : Bool → At B → Out (At B)} (inner : Inner i j) where
+      items~ : (stop : ℕ → Bool) (turns : ℕ) {n : Node A B} {w : World A B} → Keeps Skip May (Listing n w) (Listing n w) (items A source i stop turns) (items B source j stop turns)
+      unfolding items
+      items~ stop zero _ _ h = went~ h
+      items~ stop (suc turns) {n} {w} _ _ (listing l (near c h m among r)) =
+          cond~ (sees (λ kind. cond (stop kind) false true) c)
+          (λ _. bind~ (inner false (_ ∷ []) l n w _ _ (near c h m among (Z .marks r))) (λ p q b. items~ stop turns _ _ (lasts _ _ b)))
+          (λ _. went~ (listing l (near c h m among r)))
+
+      -- all items of a list, up to what stops its scope
+      allItems~ : (stop : Scope → ℕ → Bool) {n : Node A B} {w : World A B}
+          → Keeps Skip May (Listing n w) (Near Z (n ◂ [] ∷ w) (λ m. Unit {0})) (λ p. items A source i (stop (p .list .scope)) (turns A source p) p) (λ q. items B source j (stop (q .list .scope)) (turns B source q) q)
+      allItems~ stop _ _ (listing l (near c h m among r)) = weaker~ (λ p q. closed) (items~ (stop (m .scope)) _ _ _ (listing l (near c h m among r)))
+
+      itemList~ : (scope : Scope) {n : Node A B} {live : Marked} {w : World A B} {P : Holds}
+          → Keeps Skip May (Near Z (n ◂ live ∷ w) P) (Near Z (n ◂ [] ∷ w) P) (itemList A source i scope) (itemList B source j scope)
+      unfolding itemList
+      itemList~ scope _ _ (near c h m fits r) = from~ (went~ (fresh scope c h r) ▸ allItems~ (λ s. stops scope) ⨾ relist~ (λ s. m) (λ s. fits) ⨾ done~)
+
+      itemGroup~ : (scope : Scope) {top : Level A B} {w : World A B} {P : Holds} → Quiet (top ∷ w) P (itemGroup A source i scope) (itemGroup B source j scope)
+      unfolding itemGroup
+      itemGroup~ scope _ _ h = from~ (start~ (groupKind scope) h ▸ eat~ ⨾ itemList~ scope ⨾ eatIf~ (closer scope) ⨾ finish~ ⨾ done~)
+
+      -- ---- arguments
+
+      pieceIn~ : (what : Piece) {n : Node A B} {w : World A B} → Quiet (n ◂ [] ∷ w) (Among []) (piece A source i what) (piece B source j what)
+      unfolding piece
+      pieceIn~ character p q h = singleChar~ p q h
+      pieceIn~ (within scope) p q h = itemGroup~ scope p q h
+      pieceIn~ brace p q h = eat~ p q h
+      pieceIn~ item {n} {w} p q h = weaker~ (λ p q. settled) (inner false [] [] n w p q h)
+
+      piece~ : (what : Piece) {n : Node A B} {live : Marked} {w : World A B}
+          → Keeps Skip May (Near Z (n ◂ live ∷ w) (Among [])) (Near Z (n ◂ [] ∷ w) (Among [])) (piece A source i what) (piece B source j what)
+      piece~ what {live} p q h = pieceIn~ what p q (forget~ (sub-nil live) h)
+
+      argument~ : (what : Piece) {top : Level A B} {w : World A B} → Quiet (top ∷ w) (Among []) (argument A source i what) (argument B source j what)
+      unfolding argument ignoreHoldingTrivia
+      argument~ what {w} _ _ (near c h m {a} {b} among r) =
+          let opened =
+          startAs~ SyntaxKind.ClauseArgument {P = Among []} (near c (c .token) m among (dropFrom~ (c .token - h) h r))
+          (dropFrom-frame A source (Z .frame-left) (c .token - h) h a)
+          (dropFrom-frame B source (Z .frame-right) (c .token - h) h b) in
+          from~ (goes refl refl (opened ▸ piece~ what ⨾ finish~ ⨾ heldNone~ ⨾ done~))
+
+      module _ (more : Matcher → At A → Out (At A)) (more′ : Matcher → At B → Out (At B)) {top : Level A B} {w : World A B} (goesOn : (m : Matcher) → Quiet (top ∷ w) (Among []) (more m) (more′ m)) where
+        chosen~ : (choice : Choice) (m : Matcher) → Quiet (top ∷ w) (Among []) (chosen A source i more choice m) (chosen B source j more′ choice m)
+        chosen~ ends m _ _ h = went~ h
+        chosen~ holds m _ _ (near c h marks among r) = goesOn m _ _ (near (eaten c) h marks among r)
+        chosen~ (takes what next) m p q h = bind~ (argument~ what p q h) (goesOn next)
+
+        choiceFor~ : (o : Option ℕ) (m : Matcher) → Quiet (top ∷ w) (Among []) (λ p. chosen A source i more (choiceFor A source i o m p) m p) (λ q. chosen B source j more′ (choiceFor B source j o m q) m q)
+        choiceFor~ none m p q h = went~ h
+        choiceFor~ (some kind) m _ _ (near c h marks among r) = chosen~ (choose (source .states) (marks .scope) m kind) m _ _ (near c h marks among r)
+
+      arguments~ : (n : ℕ) (m : Matcher) {top : Level A B} {w : World A B} → Quiet (top ∷ w) (Among []) (arguments A source i n m) (arguments B source j n m)
+      unfolding arguments
+      arguments~ zero m _ _ h = went~ h
+      arguments~ (suc n) m _ _ (near c h marks among r) = choiceFor~ (arguments A source i n) (arguments B source j n) (λ m. arguments~ n m) (peek (source .tokens) c) m _ _ (near c h marks among r)
+
+      allArguments~ : (m : Matcher) {top : Level A B} {w : World A B} → Quiet (top ∷ w) (Among []) (λ p. arguments A source i (turns A source p) m p) (λ q. arguments B source j (turns B source q) m q)
+      allArguments~ m _ _ (near c h marks among r) = arguments~ _ m _ _ (near c h marks among r)
+
+      -- behind arguments the start is as it was, and there is no last
+      abbrev Around : Holds → Holds → Type 0
+      Around P P′ = (m : Marks (A .Mark) (B .Mark)) → P m → (s : Scope) → P′ (startOnly m s)
+
+      matchArguments~ : (m : Matcher) {top : Level A B} {w : World A B} {P P′ : Holds} → Around P P′ → Keeps Skip May (Near Z (top ∷ w) P) (Near Z (top ∷ w) P′) (matchArguments A source i m) (matchArguments B source j m)
+      unfolding matchArguments
+      matchArguments~ m around _ _ (near c h marks fits r) =
+          from~ (went~ (near c (c .token) (record { scope = marks .scope; start = none; last = none }) nil r) ▸ allArguments~ m ⨾ relist~ (startOnly marks) (around marks fits) ⨾ done~)
+
+      anew~ : {n : Node A B} {live : Marked} {w : World A B} {P : Holds}
+          → Keeps Skip May (Near Z (n ◂ live ∷ w) P) (Listing n w) (λ p. went (withMarks A (some (A .mark (p .built))) none p)) (λ q. went (withMarks B (some (B .mark (q .built))) none q))
+      anew~ _ _ (near c h m fits r) = went~ (fresh (m .scope) c h r)
+
+      greedyArgument~ : {top : Level A B} {w : World A B} {P P′ : Holds} → Around P P′ → Keeps Skip May (Near Z (top ∷ w) P) (Near Z (top ∷ w) P′) (greedyArgument A source i) (greedyArgument B source j)
+      unfolding greedyArgument
+      greedyArgument~ {P} around _ _ (near c h marks fits r) =
+          from~ (start~ SyntaxKind.ClauseArgument {P = P} (near c h marks fits r) ▸ anew~ ⨾ allItems~ greedyStops ⨾ relist~ (startOnly marks) (around marks fits) ⨾ finish~ ⨾ done~)
+
+      -- ---- commands
+
+      commandNode~ : {rest : At A → Out (At A)} {rest′ : At B → Out (At B)} {live : Marked} {f : A .Frame} {g : B .Frame} {top : Level A B} {w : World A B} {P P′ : Holds}
+          → Keeps Skip May (Near Z (node SyntaxKind.ItemCmd f g ◂ live ∷ top ∷ w) P) (Near Z (node SyntaxKind.ItemCmd f g ◂ live ∷ top ∷ w) P′) rest rest′
+          → Keeps Skip May (Near Z (node SyntaxKind.ItemCmd f g ◂ live ∷ top ∷ w) P) (Near Z (top ∷ w) P′) (commandNode A source i rest f) (commandNode B source j rest′ g)
+      unfolding commandNode
+      commandNode~ k = steps~ (eat~ ⨾ k ⨾ finish~ ⨾ done~)
+
+      -- among marks, the start alone is too
+      around-among : (l : Marked) → Around (Among l) (Among l)
+      around-among l m among s = sub-trans (start-of m) among
+
+      -- there is no start: what last is does not matter any more
+      abbrev Startless : Holds
+      Startless m = m .start ≡ none
+
+      -- a command's node is opened at the newest mark, if at one
+      data Newest : Option (A .Mark × B .Mark) → Marked → Type 0 where
+        at-none : (l : Marked) → Newest none l
+        at-first : (x : A .Mark × B .Mark) (l : Marked) → Newest (some x) (x ∷ l)
+
+      startCommandAt~ : {o : Option (A .Mark × B .Mark)} {n : Node A B} {live : Marked} {w : World A B} {P : Holds} {p : At A} {q : At B} → Newest o live → Near Z (n ◂ live ∷ w) P p q
+          → O (Near Z (opening A B SyntaxKind.ItemCmd (p .built) (q .built) ◂ live ∷ n ◂ live ∷ w) P) (startCommandAt A source (lefts o) p) (startCommandAt B source (rights o) q)
+      unfolding startCommandAt
+      startCommandAt~ (at-none l) h = start~ SyntaxKind.ItemCmd h
+      startCommandAt~ (at-first x l) h = wrap~ SyntaxKind.ItemCmd h
+
+      at-listed : (o : Option (A .Mark × B .Mark)) → Newest o (listed o)
+      at-listed none = at-none []
+      at-listed (some x) = at-first x []
+
+      -- left1: at last, else at start
+      left1~ : (s : Scope) (first last : Option (A .Mark × B .Mark)) (c : Cursor) (h : ℕ) {n : Node A B} {w : World A B} {a : A .State} {b : B .State}
+          → Z .R (n ◂ (listed last ++ listed first) ∷ w) a b
+          → O (Near Z (opening A B SyntaxKind.ItemCmd a b ◂ (listed last ++ listed first) ∷ n ◂ (listed last ++ listed first) ∷ w) (Among (listed last ++ listed first)))
+          (startCommandAt A source (orElse A source (lefts last) (lefts first)) (leftAt c h (record { scope = s; start = first; last = last }) a))
+          (startCommandAt B source (orElse B source (rights last) (rights first)) (rightAt c h (record { scope = s; start = first; last = last }) b))
+      left1~ s first none c h r = startCommandAt~ (at-listed first) (near c h (record { scope = s; start = first; last = none }) (sub-refl _) r)
+      left1~ s first (some x) c h r = startCommandAt~ (at-first x (listed first)) (near c h (record { scope = s; start = first; last = some x }) (sub-refl _) r)
+
+      -- ---- environments, left-right bodies, scripts
+
+      environmentArguments~ : (s : Shape) (l : Marked) {top : Level A B} {w : World A B} → Quiet (top ∷ w) (Among l) (environmentArguments A source i s) (environmentArguments B source j s)
+      unfolding environmentArguments
+      environmentArguments~ s l _ _ (near c h m among r) =
+          let here = near c h m among r in
+          cond~ (nameOnly s) (λ _. heldNone~ _ _ here)
+          (λ _. cond~ (isGreedy (startMatch (s .form) (s .value))) (λ _. refused~ greedyEnvironment (c .token) (Z .greedy)) (λ _. matchArguments~ _ (around-among l) _ _ here))
+
+      beginClause~ : (l : Marked) {top : Level A B} {w : World A B} → Quiet (top ∷ w) (Among l) (beginClause A source i) (beginClause B source j)
+      unfolding beginClause
+      beginClause~ l _ _ (near c h m among r) =
+          from~ (start~ SyntaxKind.ItemBegin {P = Among l} (near c h m among r) ▸ eat~ ⨾ environmentArguments~ (ofClass classEnvironment (source .shape (c .token))) l ⨾ finish~ ⨾ extract~ ⨾ done~)
+
+      endClause~ : {top : Level A B} {w : World A B} {P : Holds} → Quiet (top ∷ w) P (endClause A source i) (endClause B source j)
+      unfolding endClause
+      endClause~ _ _ (near c h m fits r) = cond~ (sees (eqb Token.EndEnvironment) c) (λ _. oneIn~ SyntaxKind.ItemEnd _ _ (near c h m fits r)) (λ _. went~ (near c h m fits r))
+
+      environmentItem~ : (l : Marked) {top : Level A B} {w : World A B} → Quiet (top ∷ w) (Among l) (environmentItem A source i) (environmentItem B source j)
+      unfolding environmentItem
+      environmentItem~ l _ _ h = from~ (start~ SyntaxKind.ItemEnv h ▸ beginClause~ l ⨾ itemList~ Scope.Environment ⨾ endClause~ ⨾ finish~ ⨾ done~)
+
+      rightClause~ : {top : Level A B} {w : World A B} {P : Holds} → Quiet (top ∷ w) P (rightClause A source i) (rightClause B source j)
+      unfolding rightClause
+      rightClause~ _ _ (near c h m fits r) = cond~ (sees (eqb Token.Right) c) (λ _. clauseLr~ _ _ (near c h m fits r)) (λ _. went~ (near c h m fits r))
+
+      itemLr~ : {top : Level A B} {w : World A B} {P : Holds} → Quiet (top ∷ w) P (itemLr A source i) (itemLr B source j)
+      unfolding itemLr
+      itemLr~ _ _ h = from~ (start~ SyntaxKind.ItemLR h ▸ clauseLr~ ⨾ itemList~ Scope.LR ⨾ rightClause~ ⨾ finish~ ⨾ done~)
+
+      script~ : (hasScript : Bool) (l : Marked) {n : Node A B} {w : World A B}
+          → Keeps Skip May (Near Z (n ◂ l ∷ w) (Among l)) (Near Z (n ◂ [] ∷ w) (Among l)) (script A source i hasScript) (script B source j hasScript)
+      unfolding script
+      script~ true l {n} {w} p q h = steps~ (trivia~ ⨾ (λ p q h. weaker~ (λ p q. settled) (inner true [] l n w p q h)) ⨾ done~) p q h
+      script~ false l p q h = went~ (forget~ (sub-nil l) h)
+
+      attachmentNode~ : (hasScript : Bool) (l : Marked) {f : A .Frame} {g : B .Frame} {top : Level A B} {w : World A B}
+          → Keeps Skip May (Near Z (node SyntaxKind.ItemAttachComponent f g ◂ l ∷ top ∷ w) (Among l)) (Near Z (top ∷ w) (Among l)) (attachmentNode A source i hasScript f) (attachmentNode B source j hasScript g)
+      unfolding attachmentNode
+      attachmentNode~ hasScript l = steps~ (eat~ ⨾ script~ hasScript l ⨾ finish~ ⨾ done~)
+
+      module _ (front l : Marked) (n : Node A B) (w : World A B) where
+        -- what was there before an item
+        abbrev Before : At A → At B → Type 0
+        Before = Near Z (n ◂ (front ++ l) ∷ w) (Among l)
+
+        -- an item at whose marks nothing was wrapped, whether it may carry a script or not
+        plain~ : (t : Bool) {o : Out (At A)} {u : Out (At B)} → O Before o u → O (Behind t front l n w) o u
+        plain~ t o = weaker~ (λ p q. unmoved t) o
+
+        -- an item that wraps may carry none
+        wrapped~ : {t : Bool} {less : Marked} {o : Out (At A)} {u : Out (At B)} → t ≡ false → Sub less l → O (Near Z (n ◂ less ∷ w) (Among less)) o u → O (Behind t front l n w) o u
+        wrapped~ {less} e sub o = rw e (weaker~ (λ p q h. behind less sub h) o)
+
+        commandOf~ : (s : Shape) → Keeps Skip May Before (Behind (attachableCommand s) front l n w) (commandOf A source i s) (commandOf B source j s)
+        unfolding commandOf
+        commandOf~ s _ _ (near c h m among r) =
+            let here = near c h m among r in
+            cond~ (nameOnly s) (λ _. plain~ _ (oneIn~ SyntaxKind.ItemCmd _ _ here))
+            (λ _. cond~ (eqb (s .form) formLeft1)
+            (λ e. wrapped~ (rw e) among (from~ (left1~ (m .scope) (m .start) (m .last) c h (Z .forgets (sub-trans among (sub-behind front l)) r) ▸ commandNode~ (λ p q h. went~ h) ⨾ done~)))
+            (λ d. cond~ (eqb (s .form) formInfixGreedy)
+            (λ e.
+            let here = near c h (record { scope = m .scope; start = none; last = m .last }) refl (Z .forgets (sub-trans (sub-trans (start-of m) among) (sub-behind front l)) r) in
+            let node = commandNode~ (greedyArgument~ (λ n e s. rw e nil)) in
+            wrapped~ (rw (d, e)) (sub-nil l) (weaker~ (λ p q. forget~ (sub-nil _)) (from~ (goes refl refl (startCommandAt~ {P = Startless} (at-listed (m .start)) here ▸ node ⨾ done~)))))
+            (λ _. cond~ (isGreedy (startMatch (s .form) (s .value)))
+            (λ _. plain~ _ (from~ (start~ SyntaxKind.ItemCmd here ▸ commandNode~ (greedyArgument~ (around-among l)) ⨾ done~)))
+            (λ _. plain~ _ (from~ (start~ SyntaxKind.ItemCmd here ▸ commandNode~ (matchArguments~ _ (around-among l)) ⨾ extract~ ⨾ done~))))))
+
+        attachTo~ : (hasScript : Bool) (s : Scope) (first last : Option (A .Mark × B .Mark)) (c : Cursor) (h : ℕ) {a : A .State} {b : B .State}
+            → Sub (listed last ++ listed first) l
+            → Z .R (n ◂ (front ++ l) ∷ w) a b
+            → O (Behind false front l n w)
+            (attachTo A source i hasScript (lefts last) (leftAt c h (record { scope = s; start = first; last = last }) a))
+            (attachTo B source j hasScript (rights last) (rightAt c h (record { scope = s; start = first; last = last }) b))
+        unfolding attachTo
+        attachTo~ hasScript s first (some x) c h among r =
+            wrapped~ refl among
+            (from~ (wrap~ SyntaxKind.ItemAttachComponent (near c h (record { scope = s; start = first; last = some x }) (sub-refl _) (Z .forgets (sub-trans among (sub-behind front l)) r)) ▸ attachmentNode~ hasScript _ ⨾ done~))
+        attachTo~ true s first none c h among r =
+            wrapped~ refl (sub-refl l)
+            (from~ (start~ SyntaxKind.ItemAttachComponent (near c h (record { scope = s; start = first; last = none }) among (Z .forgets (sub-behind front l) r)) ▸ attachmentNode~ true l ⨾ done~))
+        attachTo~ false s first none c h among r = plain~ false (eat~ _ _ (near c h (record { scope = s; start = first; last = none }) among r))
+
+        -- ---- any item
+
+        readItem~ : (single : Bool) (what : Item) (kind : ℕ) (c : Cursor) (h : ℕ) (m : Marks (A .Mark) (B .Mark)) {a : A .State} {b : B .State} → Among l m → Z .R (n ◂ (front ++ l) ∷ w) a b
+            → O (Behind (attachableItem what kind (source .shape (c .token))) front l n w)
+            (readItem A source i single what (leftAt c h m a))
+            (readItem B source j single what (rightAt c h m b))
+        unfolding readItem attachComponent
+        readItem~ single plain kind c h m among r = plain~ _ (eat~ _ _ (near c h m among r))
+        readItem~ single error kind c h m among r = plain~ true (oneIn~ SyntaxKind.TokenError _ _ (near c h m among r))
+        readItem~ single word kind c h m among r = plain~ true (cond~ single (λ _. singleChar~ _ _ (near c h m among r)) (λ _. text~ _ _ (near c h m among r)))
+        readItem~ single comma kind c h m among r = plain~ true (text~ _ _ (near c h m among r))
+        readItem~ single (group scope) kind c h m among r = plain~ _ (itemGroup~ scope _ _ (near c h m among r))
+        readItem~ single (attachment hasScript) kind c h m among r = attachTo~ hasScript (m .scope) (m .start) (m .last) c h among r
+        readItem~ single command kind c h m among r = commandOf~ (ofClass classCommand (source .shape (c .token))) _ _ (near c h m among r)
+        readItem~ single environment kind c h m among r = plain~ true (environmentItem~ l _ _ (near c h m among r))
+        readItem~ single leftRight kind c h m among r = plain~ true (itemLr~ _ _ (near c h m among r))
+        readItem~ single (skipped kind′) kind c h m among r = plain~ true (skippedBody~ kind′ _ _ (near c h m among r))
+
+        contentIf~ : (t single : Bool) (c : Cursor) (h : ℕ) (m : Marks (A .Mark) (B .Mark)) {a : A .State} {b : B .State} → Among l m → Z .R (n ◂ (front ++ l) ∷ w) a b
+            → O (Behind (attachable (kindAt (source .tokens) (c .token)) (source .shape (c .token))) front l n w)
+            (contentFor A source i (cond t (some (kindAt (source .tokens) (c .token))) none) single (leftAt c h m a))
+            (contentFor B source j (cond t (some (kindAt (source .tokens) (c .token))) none) single (rightAt c h m b))
+        unfolding attachable
+        contentIf~ true single c h m among r = readItem~ single (itemOf (kindAt (source .tokens) (c .token))) (kindAt (source .tokens) (c .token)) c h m among r
+        contentIf~ false single c h m among r = went~ (unmoved _ (near c h m among r))
+
+      content~ : Inner (content A source i) (content B source j)
+      unfolding content peek
+      content~ single front l n w _ _ (near c h m among r) = contentIf~ front l n w (ltb (c .token) (tokenCount (source .tokens))) single c h m among r
+
+    tooDeep~ : {w : World A B} {P : Holds} {p : At A} {q : At B} {Q : At A → At B → Type 0} → Near Z w P p q → O Q (refused tooManyOpen (place A p)) (refused tooManyOpen (place B q))
+    tooDeep~ (near c h m fits r) = refused~ tooManyOpen (c .token) (Z .deep)
+
+    contentAt~ : (d : ℕ) → Inner (contentAt A source d) (contentAt B source d)
+    unfolding contentAt
+    contentAt~ zero = λ single front l n w p q h. tooDeep~ h
+    contentAt~ (suc d) = content~ (contentAt~ d)
+
+    abbrev AtRoot : Holds
+    AtRoot m = m ≡ atRoot
+
+    ended~ : {live : Marked} {f : A .Frame} {g : B .Frame} → Keeps Skip May (Near Z (node SyntaxKind.ScopeRoot f g ◂ live ∷ []) AtRoot) (Ended Z) (finish A SyntaxKind.ScopeRoot f) (finish B SyntaxKind.ScopeRoot g)
+    ended~ _ _ (near c h m fits r) = rw fits (bind~ (Z .ends (c .token) r) (λ a b whole. went~ (ended c h whole)))
+
+    -- related builders at the start: related runs
+    pub simulation : {a : A .State} {b : B .State} → Z .R [] a b → OutRel Skip May (Ended Z) (parse A source a) (parse B source b)
+    unfolding parse
+    simulation r = from~ (start~ SyntaxKind.ScopeRoot (near atStart 0 atRoot refl r) ▸ itemList~ (contentAt~ Limits.nodes) Scope.Root ⨾ ended~ ⨾ done~)
