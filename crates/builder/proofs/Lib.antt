@@ -1,3 +1,4 @@
 -- What the proofs of several functions use.
 pub mod Numbers
 pub mod Laws
+pub mod Facts

@@ -65,7 +65,7 @@ impl GreenNodeBuilder {
     }
 
     pub fn checkpoint(self) -> Checkpoint
-        ensures { λ r. ⌜ markOf r ≡ flat.markOf (rowsOf self []) ⌝ }
+        ensures { λ r. ⌜ r ≡ record { children = self .children; row = self .rows } ⌝ }
     {
         Checkpoint {
             children: self.children,
@@ -74,7 +74,7 @@ impl GreenNodeBuilder {
     }
 
     pub fn frame(self) -> Frame
-        ensures { λ r. ⌜ frameOf r ≡ flat.frameOf (rowsOf self []) ⌝ }
+        ensures { λ r. ⌜ r ≡ record { first = self .first; node = self .node } ⌝ }
     {
         Frame {
             first: self.first,

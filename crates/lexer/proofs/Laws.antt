@@ -23,7 +23,7 @@ use Rattle.lexer.specs.Reading.{peekedOf}
 use Rattle.lexer.specs.declared.cursor.Peeked.{Peeked}
 use Rattle.lexer.specs.declared.cursor.Peeked.the-variants.{Kind, End}
 
-le-or-lt : (a b : ℕ) → (a ≤ b) ⊎ (b < a)
+pub le-or-lt : (a b : ℕ) → (a ≤ b) ⊎ (b < a)
 le-or-lt a b = either (leb a b) (λ t. inl (leb-true a b t)) (λ f. inr (leb-false a b f))
 
 -- ---- what `peek` tells

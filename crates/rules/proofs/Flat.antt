@@ -2,13 +2,15 @@
 use Prim.Native.Nat.{ℕ, _+_, _/_, _≤_, _<_}
 use native.Mathlib.Nat.{le-refl, eq-or-lt-of-le}
 use mathlib.Core.Logic.{⊎-elim}
-use mathlib.Core.Path.{_≡_}
+use mathlib.Core.Bool.{Bool, true, false, cond}
+use mathlib.Core.Path.{_≡_, refl, ap}
 use native.Mathlib.Omega.{arith}
-use borrow.Author.Tests.{lt-ltb, le-ltb, le-leb, lt-leb}
+use lib.Dec.{ltb, leb}
+use borrow.Author.Tests.{lt-ltb, le-ltb, le-leb, lt-leb, ltb-true, ltb-false, leb-false}
 use Rattle.rules.specs.Limits.{treeWidth, nodes}
 use Rattle.rules.specs.SyntaxKind.{ClauseArgument}
-use Rattle.rules.specs.Outcome.{Out, went, refused, markBeforeNode, tooManyOpen, noRoom}
-use Rattle.rules.specs.Flat.{Rows, Mark, Frame, leafed, leaf, started, start, finished, finish, startedAt, startAt, frameOf, wrap}
+use Rattle.rules.specs.Outcome.{Out, went, refused, bind, markBeforeNode, tooManyOpen, noRoom}
+use Rattle.rules.specs.Flat.{Rows, Mark, Frame, orNoRoom, orTooManyOpen, leafed, leaf, started, start, finished, finish, startedAt, startAt, frameOf, wrap}
 
 -- ---- a row behind the others
 
@@ -105,3 +107,73 @@ module _ (n place kind : ℕ) (m : Mark) (b : Rows) where
       wrap-fuller free full =
           let enough : b .rows + 1 ≤ n / treeWidth = omega arith in
           ⊎-elim (λ same. after-first free (omega arith)) (λ less. after-second less full) (eq-or-lt-of-le enough)
+
+-- ---- an operation that went had room, and is what it was to be
+
+-- a test that lets an outcome through
+let-through : (test : Bool) (go : Out Rows) (number place : ℕ) (x : Rows) → cond test go (refused number place) ≡ went x → (test ≡ true) × (go ≡ went x)
+let-through true go number place x e = (refl, e)
+let-through false go number place x e = let z : _≡_ {A = ℕ} 0 1 = cc in absurd (omega arith)
+
+-- a test that stops an outcome
+not-stopped : (test : Bool) (go : Out Rows) (number place : ℕ) (x : Rows) → cond test (refused number place) go ≡ went x → (test ≡ false) × (go ≡ went x)
+not-stopped false go number place x e = (refl, e)
+not-stopped true go number place x e = let z : _≡_ {A = ℕ} 0 1 = cc in absurd (omega arith)
+
+same-rows : (x y : Rows) → went x ≡ went y → x ≡ y
+same-rows x y e = cc
+
+module _ (n place : ℕ) (b x : Rows) where
+  had-room : (y : Rows) → orNoRoom n place b (went y) ≡ went x → (b .rows < n / treeWidth) × (y ≡ x)
+  had-room y e =
+      let through = let-through (ltb (b .rows) (n / treeWidth)) (went y) noRoom place x e in
+      (ltb-true (b .rows) (n / treeWidth) (through .0), same-rows y x (through .1))
+
+  pub leaf-went : (kind from size : ℕ) → leaf n place kind from size b ≡ went x → (b .rows < n / treeWidth) × (leafed kind from size b ≡ x)
+  unfolding leaf
+  leaf-went kind from size e = had-room (leafed kind from size b) e
+
+  pub finish-went : (kind : ℕ) (f : Frame) → finish n place kind f b ≡ went x → (b .rows < n / treeWidth) × (finished kind f b ≡ x)
+  unfolding finish
+  finish-went kind f e = had-room (finished kind f b) e
+
+  had-few : (y : Rows) → orTooManyOpen place b (orNoRoom n place b (went y)) ≡ went x → (b .depth < nodes) × (b .rows < n / treeWidth) × (y ≡ x)
+  had-few y e =
+      let not-many = not-stopped (leb nodes (b .depth)) (orNoRoom n place b (went y)) tooManyOpen place x e in
+      let room = had-room y (not-many .1) in
+      (leb-false nodes (b .depth) (not-many .0), room .0, room .1)
+
+  pub start-went : (kind : ℕ) → start n place kind b ≡ went x → (b .depth < nodes) × (b .rows < n / treeWidth) × (started kind b ≡ x)
+  unfolding start
+  start-went kind e = had-few (started kind b) e
+
+  pub at-went : (kind : ℕ) (m : Mark) → startAt n place kind m b ≡ went x → (b .first ≤ m .children) × (b .depth < nodes) × (b .rows < n / treeWidth) × (startedAt kind m b ≡ x)
+  unfolding startAt
+  at-went kind m e =
+      let inside = not-stopped (ltb (m .children) (b .first)) (orTooManyOpen place b (orNoRoom n place b (went (startedAt kind m b)))) markBeforeNode place x e in
+      let few = had-few (startedAt kind m b) (inside .1) in
+      (ltb-false (m .children) (b .first) (inside .0), few .0, few .1, few .2)
+
+-- a routine and then another that went: both did
+both-went : (o : Out Rows) (f : Rows → Out Rows) (x : Rows) → bind o f ≡ went x → (y : Rows) × (o ≡ went y) × (f y ≡ went x)
+both-went (went y) f x e = (y, refl, e)
+both-went (refused number place) f x e = let z : _≡_ {A = ℕ} 0 1 = cc in absurd (omega arith)
+
+-- the rows of a wrap, from those of its steps
+wrap-rows : (kind : ℕ) (m : Mark) (b o i x : Rows) → startedAt kind m b ≡ o → startedAt ClauseArgument m o ≡ i → finished ClauseArgument (frameOf o) i ≡ x
+    → finished ClauseArgument (frameOf (startedAt kind m b)) (startedAt ClauseArgument m (startedAt kind m b)) ≡ x
+wrap-rows kind m b o i x first second last = rw (first, second) last
+
+pub wrap-went : (n place : ℕ) (b x : Rows) (kind : ℕ) (m : Mark) → wrap n place kind m b ≡ went x
+    → (b .first ≤ m .children) × (b .depth + 1 < nodes) × (b .rows + 2 < n / treeWidth) × (finished ClauseArgument (frameOf (startedAt kind m b)) (startedAt ClauseArgument m (startedAt kind m b)) ≡ x)
+unfolding wrap startedAt
+wrap-went n place b x kind m e =
+    let outer = both-went (startAt n place kind m b) (λ o. bind (startAt n place ClauseArgument m o) (λ i. finish n place ClauseArgument (frameOf o) i)) x e in
+    let inner = both-went (startAt n place ClauseArgument m (outer .0)) (λ i. finish n place ClauseArgument (frameOf (outer .0)) i) x (outer .2) in
+    let first = at-went n place b (outer .0) kind m (outer .1) in
+    let second = at-went n place (outer .0) (inner .0) ClauseArgument m (inner .1) in
+    let last = finish-went n place (inner .0) x ClauseArgument (frameOf (outer .0)) (inner .2) in
+    let depth : b .depth + 1 ≡ outer .0 .depth = ap (λ (y : Rows). y .depth) (first .3) in
+    let rows : outer .0 .rows + 1 ≡ inner .0 .rows = ap (λ (y : Rows). y .rows) (second .3) in
+    let rows′ : b .rows + 1 ≡ outer .0 .rows = ap (λ (y : Rows). y .rows) (first .3) in
+    (first .0, omega arith, omega arith, wrap-rows kind m b (outer .0) (inner .0) x (first .3) (second .3) (last .1))

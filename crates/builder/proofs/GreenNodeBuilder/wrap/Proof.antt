@@ -1,8 +1,9 @@
 -- `GreenNodeBuilder::wrap` meets its contract: all that can refuse it is asked before a row moves, in the rule's order. Assumes nothing.
-use mathlib.Core.Path.{refl}
+use mathlib.Core.Path.{refl, ap}
 use native.Mathlib.Omega.{arith}
 use borrow.Author.Needs.{needs}
 use Rattle.rules.proofs.Flat.{wrap-before, wrap-deep, wrap-full, wrap-deeper, wrap-fuller}
+use Rattle.builder.specs.Stands.{frameOf}
 use Rattle.builder.proofs.Laws.{wrapped}
 use Rattle.builder.proofs.GreenNodeBuilder.wrap.Statement.{statement}
 use Rattle.builder.proofs.GreenNodeBuilder.wrap.Tie as tie
@@ -39,7 +40,7 @@ finish-node-requires c κs =
     (omega arith, omega arith)
 
 returns-6 : tie.Need-returns-6
-returns-6 c = wrapped _ (c .before .before .before .before .before .before .before .before .before .before .before .before .before .before .before .before .before .before .before .before .before .if1 .left) (c .before .before .before .before .before .before .before .before .before .before .before .before .before .before .before .if4 .left) (c .before .before .before .before .before .before .before .before .before .before .before .before .before .if5 .left) (c .before .before .before .before .before .before .before .before .before .before .before .open-at .ensures) (c .before .before .before .before .before .before .before .open-at2 .ensures) (c .before .before .before .frame .ensures) (c .before .before .finish-node .ensures) (c .before .before .before .before .before .before .before .before .before .before .before .open-at .kept .1 .0) (c .before .before .before .before .before .before .before .open-at2 .kept .1 .0)
+returns-6 c = wrapped _ (c .before .before .before .before .before .before .before .before .before .before .before .before .before .before .before .before .before .before .before .before .before .if1 .left) (c .before .before .before .before .before .before .before .before .before .before .before .before .before .before .before .if4 .left) (c .before .before .before .before .before .before .before .before .before .before .before .before .before .if5 .left) (c .before .before .before .before .before .before .before .before .before .before .before .open-at .ensures) (c .before .before .before .before .before .before .before .open-at2 .ensures) (ap frameOf (c .before .before .before .frame .ensures)) (c .before .before .finish-node .ensures) (c .before .before .before .before .before .before .before .before .before .before .before .open-at .kept .1 .0) (c .before .before .before .before .before .before .before .open-at2 .kept .1 .0)
 
 pub wrap-spec : {M : Type 1} → statement M
 wrap-spec =
