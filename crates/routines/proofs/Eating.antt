@@ -1,0 +1,134 @@
+-- A loop that eats tokens while their kind passes a test: its invariant is the walk so far, with turns enough for what is left to read. Assumes nothing.
+use mathlib.Core.Path.{_≡_, refl, sym, ap, _∙_}
+use mathlib.Core.Bool.{Bool, true, false}
+use mathlib.Core.List.{List, [], _∷_}
+use mathlib.Core.Logic.{⊎-elim}
+use Prim.Native.Nat.{ℕ, zero, suc, _+_, _≤_, _<_}
+use native.Mathlib.Omega.{arith}
+use lib.ListN.{length}
+use Rattle.rules.specs.Outcome.{Out, went, bind}
+use Rattle.rules.specs.Flat.{flat}
+use Rattle.rules.specs.Checks.{Tables, sourceOf}
+use Rattle.rules.specs.Cursor.{Cursor, peek, left}
+use Rattle.rules.specs.Position.{asked}
+use Rattle.rules.specs.Routines.{eat, eatWhile}
+use Rattle.rules.specs.Tables.{tokenCount}
+use Rattle.rules.proofs.Characters.{either}
+use Rattle.lexer.specs.Reading.{cursorOf}
+use Rattle.lexer.proofs.Laws.{peek-none, left-some, le-or-lt}
+use Rattle.routines.specs.Stands.{Buffers, Here, posOf}
+use Rattle.routines.specs.Contract.{Ready, Ran, RuleOf, Somehow, leftOf}
+use Rattle.routines.specs.declared.state.Parser.{Parser}
+use Rattle.routines.specs.declared.state.Step.{Step}
+use Rattle.routines.specs.declared.state.Step.the-variants.{Went}
+use Rattle.routines.proofs.Walk.{Rule, line, last-step, two-steps, Walk, begins, turns, passes, forgets, leaves, stops, arrives, ran, ran-by, somehow-then, Stopped}
+
+-- where a test of the next token passes, one is there
+pub asked-there : (test : ℕ → Bool) (tokens : List ℕ) (c : Cursor) → asked test (peek tokens c) ≡ true → c .token < tokenCount tokens
+asked-there test tokens c e =
+    ⊎-elim (λ end. let z : _≡_ {A = ℕ} 0 1 = cc (ap (asked test) (peek-none tokens c end)) in absurd (omega arith)) (λ there. there) (le-or-lt (tokenCount tokens) (c .token))
+
+-- the rule of the whole loop
+abbrev pub eating : (ℕ → Bool) → RuleOf
+eating test s n q = eatWhile (flat n) s test (left (s .tokens) (q .lexer)) q
+
+module _ (test : ℕ → Bool) (tokens : List ℕ) (p : Parser) (tree : List ℕ) where
+  abbrev Sees : Tables → Type 0
+  Sees t = t .tokens ≡ tokens
+
+  abbrev with-notes : List ℕ → List ℕ → Buffers
+  with-notes numbers notes = record { tree = numbers; dropped = notes }
+
+  -- what is left of the loop, with so many turns
+  abbrev more : Tables → ℕ → Rule
+  more t fuel n d = eatWhile (flat n) (sourceOf t) test fuel
+
+  -- the walk so far, to q and `after`, with turns enough for what is left
+  pub record Far (t : Tables) (notes : List ℕ) (q : Parser) (after : List ℕ) : Type 0 where
+    pub fuel : ℕ
+    pub enough : leftOf t q ≤ fuel
+    pub walk : Walk t (λ n d. eating test (sourceOf t) n) (more t fuel ∷ []) 0 0 (p .list .scope) p (with-notes tree notes) q (with-notes after notes)
+
+  -- for all tables that agree, and all dropped buffers
+  pub record Eating (q : Parser) (after : List ℕ) : Type 0 where
+    pub far : (t : Tables) (notes : List ℕ) → Sees t → Ready t p (with-notes tree notes) → Far t notes q after
+
+  pub eating-begins : Eating p tree
+  eating-begins = record {
+    far = λ t notes seen ready. record {
+      fuel = leftOf t p;
+      enough = omega arith;
+      walk = begins ready (λ n d. sym (last-step (more t (leftOf t p)) n d (posOf p (with-notes tree notes))));
+    };
+  }
+
+  module _ {q : Parser} {after : List ℕ} (e : Eating q after) where
+    -- it is ready where the routine began so
+    pub eating-ready : Somehow Sees p tree → Somehow Sees q after
+    eating-ready s = somehow-then s (e .far (s .t) (s .notes) (s .seen) (s .ready) .walk .ready)
+
+    -- the buffer has the length that it had
+    pub eating-long : Somehow Sees p tree → length after ≡ length tree
+    eating-long s = e .far (s .t) (s .notes) (s .seen) (s .ready) .walk .passed .tree-long
+
+    module _ (yes : asked test (peek tokens (cursorOf (q .lexer))) ≡ true) where
+      -- one turn of it: a token is eaten, and then it goes on
+      record Turn (t : Tables) (notes : List ℕ) : Type 0 where
+        fuel : ℕ
+        enough : leftOf t q ≤ suc fuel
+        walk : Walk t (λ n d. eating test (sourceOf t) n) ((λ n d. eat (flat n) (sourceOf t)) ∷ more t fuel ∷ []) 0 0 (p .list .scope) p (with-notes tree notes) q (with-notes after notes)
+
+      turn-of : (t : Tables) (notes : List ℕ) → Sees t → (fuel : ℕ) → leftOf t q ≤ fuel
+          → Walk t (λ n d. eating test (sourceOf t) n) (more t fuel ∷ []) 0 0 (p .list .scope) p (with-notes tree notes) q (with-notes after notes) → Turn t notes
+      unfolding eatWhile
+      turn-of t notes seen zero enough w =
+          let there : q .lexer .token < tokenCount (t .tokens) = rw seen (asked-there test tokens (cursorOf (q .lexer)) yes) in
+          let some = left-some (w .ready .steady .fine) there in
+          absurd (omega arith)
+      turn-of t notes seen (suc fuel) enough w =
+          let asks : asked test (peek (t .tokens) (cursorOf (q .lexer))) ≡ true = rw seen yes in
+          record {
+            fuel = fuel;
+            enough = enough;
+            walk = turns w (λ n d. last-step (more t (suc fuel)) n d (posOf q (with-notes after notes)) ∙ rw asks (sym (two-steps (λ n d. eat (flat n) (sourceOf t)) (more t fuel) n d (posOf q (with-notes after notes)))));
+          }
+
+      turn : (t : Tables) (notes : List ℕ) → Sees t → Ready t p (with-notes tree notes) → Turn t notes
+      turn t notes seen ready = let f = e .far t notes seen ready in turn-of t notes seen (f .fuel) (f .enough) (f .walk)
+
+      module _ {r : Step} {last : List ℕ} (ate : (notes : List ℕ) → Ran Sees 1 (λ s n. eat (flat n) s) q (with-notes after notes) r (with-notes last notes)) where
+        pub eating-goes-on : {z : Parser} → r ≡ Went z → Eating z last
+        eating-goes-on went-on = record {
+          far = λ t notes seen ready.
+              let f = turn t notes seen ready in
+              let w = passes (f .walk) (ran seen (ate notes)) went-on in
+              let less = w .passed .read in
+              record { fuel = f .fuel; enough = enough-left t notes seen ready went-on; walk = forgets w };
+        }
+          where
+            enough-left : {z : Parser} (t : Tables) (notes : List ℕ) (seen : Sees t) (ready : Ready t p (with-notes tree notes)) → r ≡ Went z → leftOf t z ≤ turn t notes seen ready .fuel
+            enough-left t notes seen ready went-on =
+                let f = turn t notes seen ready in
+                let l = leaves (f .walk) (ran seen (ate notes)) went-on in
+                let read = l .passed .read in
+                let enough = f .enough in
+                omega arith
+
+        -- and less is left
+        pub eating-less : {z : Parser} → Somehow Sees p tree → r ≡ Went z → left tokens (cursorOf (z .lexer)) < left tokens (cursorOf (q .lexer))
+        eating-less s went-on =
+            let f = turn (s .t) (s .notes) (s .seen) (s .ready) in
+            let read = leaves (f .walk) (ran (s .seen) (ate (s .notes))) went-on .passed .read in
+            rw (← s .seen) (omega arith)
+
+        pub eating-stops : {any : List ℕ} → Stopped r → (notes : List ℕ) → Ran Sees 0 (eating test) p (with-notes tree notes) r (with-notes any notes)
+        eating-stops st notes = ran-by (λ t seen ready. stops (turn t notes seen ready .walk) (ran seen (ate notes)) st)
+
+    module _ (no : asked test (peek tokens (cursorOf (q .lexer))) ≡ false) where
+      ended : (t : Tables) (notes : List ℕ) → Sees t → (fuel : ℕ) → (n d : ℕ) → line (more t fuel ∷ []) n d (posOf q (with-notes after notes)) ≡ line [] n d (posOf q (with-notes after notes))
+      unfolding eatWhile line
+      ended t notes seen zero n d = refl
+      ended t notes seen (suc fuel) n d = let asks : asked test (peek (t .tokens) (cursorOf (q .lexer))) ≡ false = rw seen no in rw asks
+
+      pub eating-ends : (notes : List ℕ) → Ran Sees 0 (eating test) p (with-notes tree notes) (Went q) (with-notes after notes)
+      eating-ends notes = ran-by (λ t seen ready. let f = e .far t notes seen ready in arrives (turns (f .walk) (ended t notes seen (f .fuel))))

@@ -1,0 +1,6 @@
+-- What the proofs of several functions use.
+pub mod Building
+pub mod Walk
+pub mod Asked
+pub mod Leaves
+pub mod Eating

@@ -1,0 +1,13 @@
+-- `Parser::leaf` meets its contract: the leaf that the builder wrote, with all else as it was. Assumes nothing.
+use mathlib.Core.Path.{refl}
+use borrow.Author.Needs.{needs}
+use Rattle.builder.proofs.Facts.{leafs}
+use Rattle.routines.proofs.Building.{built-told, leafed}
+use Rattle.routines.proofs.state.Parser.leaf.Statement.{statement}
+use Rattle.routines.proofs.state.Parser.leaf.Tie as tie
+
+returns : tie.Need-returns
+returns c = λ notes token. built-told _ _ _ notes _ _ (c .building .ensures) (c .before .before .before .token .ensures .is) refl (λ u e. leafed _ _ _ notes u (leafs (c .before .before .before .before .before .before .pre) e (c .before .before .before .token .kept .1 .0) _ _ _ _ (c .before .before .before .token .ensures)))
+
+pub leaf-spec : {M : Type 1} → statement M
+leaf-spec = tie.close (tie.spec (λ c κs. search needs) (λ c κs. search needs) (λ c. search needs) returns)

@@ -1,0 +1,39 @@
+-- `tokens::eat_if` meets its contract: the token is eaten where it is of the kind, and else nothing is done. Assumes nothing.
+use mathlib.Core.Path.{_≡_, sym, _∙_}
+use lib.Dec.{eqb}
+use borrow.Author.Needs.{needs}
+use borrow.Author.Tests.{eq-eqb, ne-eqb}
+use Rattle.rules.specs.Routines.{eatIf}
+use Rattle.lexer.proofs.Laws.{peeked}
+use Rattle.routines.proofs.Asked.{asked-kind, asked-end}
+use Rattle.routines.proofs.Walk.{nothing-done, ran-as, ran-less}
+use Rattle.routines.proofs.tokens.eat_if.Statement.{statement}
+use Rattle.routines.proofs.tokens.eat_if.Tie as tie
+
+returns : tie.Need-returns
+unfolding eatIf
+returns c = λ notes. nothing-done (λ t seen n. rw (seen, asked-end _ _ (c .before .before .peek .ensures) (eqb (c .before .before .before .before .before .args .kind)) (c .enum-told .given .1)))
+
+eat-requires : tie.Need-eat-requires
+eat-requires c κs = (peeked _ _ (c .before .before .before .before .before .peek .ensures) (c .before .before .before .peeked .given .1) .there, c .before .before .before .before .before .before .before .before .pre)
+
+returns-2 : tie.Need-returns-2
+unfolding eatIf
+returns-2 c = λ notes. ran-less (ran-as (c .before .before .eat .ensures notes) (λ t seen n. rw (seen, asked-kind _ _ (c .before .before .before .before .before .before .before .before .peek .ensures) (eqb (c .before .before .before .before .before .before .before .before .before .before .before .args .kind)) (c .before .before .before .before .before .before .peeked .given .1), eq-eqb _ _ (sym (c .before .before .before .before .if1 .taken)))))
+
+returns-3 : tie.Need-returns-3
+unfolding eatIf
+returns-3 c = λ notes. nothing-done (λ t seen n. rw (seen, asked-kind _ _ (c .before .before .before .before .peek .ensures) (eqb (c .before .before .before .before .before .before .before .args .kind)) (c .before .before .peeked .given .1), ne-eqb _ _ (λ e. c .if1 .left (sym e))))
+
+pub eat-if-spec : {M : Type 1} → statement M
+eat-if-spec =
+    tie.close
+    (tie.spec
+    (λ c κs. search needs)
+    (λ c. search needs)
+    (λ c. search needs)
+    returns
+    eat-requires
+    (λ c. search needs)
+    returns-2
+    returns-3)

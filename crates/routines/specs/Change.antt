@@ -1,0 +1,30 @@
+-- A state with one part of it changed.
+use Prim.Native.Nat.{ℕ}
+use Rattle.lexer.specs.declared.cursor.Lexer.{Lexer}
+use Rattle.builder.specs.declared.GreenNodeBuilder.{GreenNodeBuilder}
+use Rattle.builder.specs.declared.Built.{Built}
+use Rattle.builder.specs.declared.Built.the-variants as built
+use Rattle.routines.specs.declared.state.Mark.{Mark}
+use Rattle.routines.specs.declared.state.ListState.{ListState}
+use Rattle.routines.specs.declared.state.Parser.{Parser}
+use Rattle.routines.specs.declared.state.Step.{Step}
+use Rattle.routines.specs.declared.state.Step.the-variants.{Went, Refused}
+
+abbrev pub relexed : Parser → Lexer → Parser
+relexed p l = record { lexer = l; held = p .held; list = p .list; builder = p .builder; dropped = p .dropped }
+
+abbrev pub relisted : Parser → ListState → Parser
+relisted p l = record { lexer = p .lexer; held = p .held; list = l; builder = p .builder; dropped = p .dropped }
+
+abbrev pub remarked : Parser → Mark → Mark → Parser
+remarked p start last = relisted p (record { scope = p .list .scope; start = start; last = last })
+
+abbrev pub unheld : Parser → Parser
+unheld p = record { lexer = p .lexer; held = p .lexer .token; list = p .list; builder = p .builder; dropped = p .dropped }
+
+abbrev pub rebuilt : Parser → GreenNodeBuilder → Parser
+rebuilt p b = record { lexer = p .lexer; held = p .held; list = p .list; builder = b; dropped = p .dropped }
+
+abbrev pub buildingOf : Parser → Built → Step
+buildingOf p (built.Went b) = Went (rebuilt p b)
+buildingOf p (built.Refused number place) = Refused number place

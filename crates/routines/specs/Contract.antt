@@ -1,0 +1,151 @@
+-- What the contracts of the parser's routines say.
+use Prim.Native.Nat.{ℕ, _+_, _*_, _-_, _/_, _^_, _≤_, _<_}
+use mathlib.Core.Path.{_≡_}
+use mathlib.Core.List.{List}
+use lib.ListN.{length, drop}
+use Rattle.rules.specs.Limits.{tokens, nodes, treeWidth, droppedWidth, shapeWidth}
+use Rattle.rules.specs.Outcome.{Out}
+use Rattle.rules.specs.Checks.{Tables, sourceOf}
+use Rattle.rules.specs.Position.{Source}
+use Rattle.rules.specs.Tables.{tokenCount, shapeAt}
+use Rattle.rules.specs.Cursor.{Cursor, left}
+use Rattle.lexer.specs.Reading.{cursorOf}
+use Rattle.lexer.specs.Fine.{Sound, Fine}
+use Rattle.builder.specs.Contract.{Fits, Within, Inside}
+use Rattle.builder.specs.declared.GreenNodeBuilder.{GreenNodeBuilder}
+use Rattle.routines.specs.Stands.{Buffers, Here, posOf, outOf}
+use Rattle.routines.specs.declared.state.Mark.{Mark}
+use Rattle.routines.specs.declared.state.Mark.the-variants.{Nothing, At}
+use Rattle.routines.specs.declared.state.Parser.{Parser}
+use Rattle.routines.specs.declared.state.Step.{Step}
+use Rattle.routines.specs.declared.state.Step.the-variants.{Went, Refused}
+
+-- ---- what a routine may assume
+
+-- a mark was made when there were no more rows than now
+abbrev pub MarkOk : Mark → GreenNodeBuilder → Type 0
+MarkOk Nothing b = Unit {0}
+MarkOk (At m) b = Inside m b
+
+-- tables that were not refused
+pub record Good (t : Tables) : Type 0 where
+  pub sound : Sound (t .text) (t .tokens)
+  pub few : tokenCount (t .tokens) ≤ tokens
+  pub shaped : (i : ℕ) → i < tokenCount (t .tokens) → shapeAt (t .tokens) i ≤ length (t .shapes) / shapeWidth
+
+-- what is left to read from a state on
+abbrev pub leftOf : Tables → Parser → ℕ
+leftOf t p = left (t .tokens) (cursorOf (p .lexer))
+
+-- a state in its buffers: no token is passed that is not there, no row is counted that is not there, and no more is dropped than was passed
+pub record Steady (t : Tables) (p : Parser) (m : Buffers) : Type 0 where
+  pub good : Good t
+  pub fine : Fine (t .text) (t .tokens) (cursorOf (p .lexer))
+  pub token : p .lexer .token ≤ tokenCount (t .tokens)
+  pub fits : Fits (p .builder) (m .tree)
+  pub start : MarkOk (p .list .start) (p .builder)
+  pub last : MarkOk (p .list .last) (p .builder)
+  pub dropped : p .dropped ≤ p .lexer .token
+  pub notes : tokenCount (t .tokens) * droppedWidth ≤ length (m .dropped)
+  -- each leaf took something of what there was to read
+  pub leaves : p .builder .leaves + leftOf t p ≤ 2 ^ 31
+
+-- and a node is open
+pub record Ready (t : Tables) (p : Parser) (m : Buffers) : Type 0 where
+  pub steady : Steady t p m
+  pub within : Within (p .builder)
+
+-- ---- what a routine leaves
+
+-- on the way from p to q at least `gain` was read, and what lies behind q's rows in both buffers is as it was
+pub record Passed (t : Tables) (gain : ℕ) (p : Parser) (m : Buffers) (q : Parser) (v : Buffers) : Type 0 where
+  pub tree : drop (q .builder .rows * treeWidth) (v .tree) ≡ drop (q .builder .rows * treeWidth) (m .tree)
+  pub notes : drop (q .dropped * droppedWidth) (v .dropped) ≡ drop (q .dropped * droppedWidth) (m .dropped)
+  pub tree-long : length (v .tree) ≡ length (m .tree)
+  pub notes-long : length (v .dropped) ≡ length (m .dropped)
+  pub rows : p .builder .rows ≤ q .builder .rows
+  pub dropped : p .dropped ≤ q .dropped
+  pub token : p .lexer .token ≤ q .lexer .token
+  pub read : leftOf t q + gain ≤ leftOf t p
+  pub leaves : q .builder .leaves + leftOf t q ≤ p .builder .leaves + leftOf t p
+
+-- a routine that went: the same node is open, in a list of the same scope
+pub record Left (t : Tables) (gain : ℕ) (p : Parser) (m : Buffers) (q : Parser) (v : Buffers) : Type 0 where
+  pub passed : Passed t gain p m q v
+  pub ready : Ready t q v
+  pub depth : q .builder .depth ≡ p .builder .depth
+  pub first : q .builder .first ≡ p .builder .first
+  pub node : q .builder .node ≡ p .builder .node
+  pub scope : q .list .scope ≡ p .list .scope
+
+-- a node was begun, here or at an earlier mark
+pub record Begun (t : Tables) (p : Parser) (m : Buffers) (q : Parser) (v : Buffers) : Type 0 where
+  pub passed : Passed t 0 p m q v
+  pub ready : Ready t q v
+  pub few : p .builder .depth < nodes
+  pub depth : q .builder .depth ≡ p .builder .depth + 1
+  pub list : q .list ≡ p .list
+  pub lexer : q .lexer ≡ p .lexer
+
+-- a leaf was written, and nothing else changed
+pub record Leafed (p : Parser) (tree : List ℕ) (q : Parser) (after : List ℕ) : Type 0 where
+  pub rest : drop (q .builder .rows * treeWidth) after ≡ drop (q .builder .rows * treeWidth) tree
+  pub fits : Fits (q .builder) after
+  pub rows : p .builder .rows < q .builder .rows
+  pub leaves : q .builder .leaves ≡ p .builder .leaves + 1
+  pub depth : q .builder .depth ≡ p .builder .depth
+  pub first : q .builder .first ≡ p .builder .first
+  pub node : q .builder .node ≡ p .builder .node
+  pub lexer : q .lexer ≡ p .lexer
+  pub held : q .held ≡ p .held
+  pub list : q .list ≡ p .list
+  pub dropped : q .dropped ≡ p .dropped
+
+-- the innermost open node was ended, and its parent's frame is given back
+pub record Ended (t : Tables) (first node : ℕ) (p : Parser) (m : Buffers) (q : Parser) (v : Buffers) : Type 0 where
+  pub passed : Passed t 0 p m q v
+  pub steady : Steady t q v
+  pub depth : q .builder .depth + 1 ≡ p .builder .depth
+  pub first-is : q .builder .first ≡ first
+  pub node-is : q .builder .node ≡ node
+  pub list : q .list ≡ p .list
+  pub lexer : q .lexer ≡ p .lexer
+
+abbrev pub Gone : (Parser → Type 0) → Step → Type 0
+Gone Q (Went q) = Q q
+Gone Q (Refused number place) = Unit {0}
+
+-- ---- contracts
+
+-- a routine came to what its rule says, and left what Q says; a refusal says its number and its place, and nothing of the buffers
+pub record Told (rule : ℕ → Here → Out Here) (Q : Parser → Type 0) (p : Parser) (m : Buffers) (r : Step) (v : Buffers) : Type 0 where
+  pub is : rule (length (m .tree)) (posOf p m) ≡ outOf r v
+  pub gone : Gone Q r
+
+-- a rule for what is read and a room
+abbrev pub RuleOf : Type 0
+RuleOf = Source → ℕ → Here → Out Here
+
+-- a routine outside the cycle that does not see all tables or buffers keeps its promise for all that agree with those it sees
+pub record Ran (sees : Tables → Type 0) (gain : ℕ) (rule : RuleOf) (p : Parser) (m : Buffers) (r : Step) (v : Buffers) : Type 0 where
+  pub told : (t : Tables) → sees t → Ready t p m → Told (rule (sourceOf t)) (λ q. Left t gain p m q v) p m r v
+
+-- one that opens a node
+pub record Opens (rule : ℕ → Here → Out Here) (p : Parser) (m : Buffers) (r : Step) (v : Buffers) : Type 0 where
+  pub told : (t : Tables) → Steady t p m → Told rule (λ q. Begun t p m q v) p m r v
+
+-- one that closes a node
+pub record Closes (rule : ℕ → Here → Out Here) (first node : ℕ) (p : Parser) (m : Buffers) (r : Step) (v : Buffers) : Type 0 where
+  pub told : (t : Tables) → Ready t p m → Told rule (λ q. Ended t first node p m q v) p m r v
+
+-- a routine of the cycle: its rule at every level that is enough for the nodes that may yet be opened
+pub record Runs (t : Tables) (gain : ℕ) (want : ℕ → ℕ → Out Here) (p : Parser) (m : Buffers) (r : Step) (v : Buffers) : Type 0 where
+  pub is : (d : ℕ) → nodes ≤ p .builder .depth + d → want (length (m .tree)) d ≡ outOf r v
+  pub gone : Gone (λ q. Left t gain p m q v) r
+
+-- tables and a dropped buffer for which the state is ready, whatever they are
+pub record Somehow (sees : Tables → Type 0) (p : Parser) (tree : List ℕ) : Type 0 where
+  pub t : Tables
+  pub notes : List ℕ
+  pub seen : sees t
+  pub ready : Ready t p (record { tree = tree; dropped = notes })

@@ -1,0 +1,13 @@
+// The parser's state by value, and the routines of parser.rs that read no item inside another.
+mod state;
+mod tokens;
+
+pub use state::ListState;
+pub use state::Mark;
+pub use state::Parser;
+pub use state::Step;
+pub use tokens::eat;
+pub use tokens::eat_if;
+pub use tokens::one_in;
+pub use tokens::single_char;
+pub use tokens::trivia;

@@ -1,0 +1,129 @@
+// The parser's state, which goes in and comes back by value beside the lent slices, and the builder's operations on it.
+ghost use mathlib.Core.Path.{_≡_};
+ghost use mathlib.Core.List.{List};
+ghost use Prim.Native.Nat.{ℕ};
+ghost use Rattle.rules.specs.Flat.{flat};
+ghost use Rattle.rules.specs.Position as spec;
+ghost use Rattle.builder.specs.Stands as shown;
+ghost use Rattle.routines.specs.Change.{buildingOf, relexed, relisted, remarked, unheld};
+ghost use Rattle.builder.specs.Contract.{Fits, Within, Inside};
+ghost use Rattle.routines.specs.Contract.{Told, Leafed, Opens, Closes};
+use builder::Built;
+use builder::Checkpoint;
+use builder::Frame;
+use builder::GreenNodeBuilder;
+use lexer::Lexer;
+use syntax::ParseScope;
+
+// `Option<Checkpoint>`.
+pub enum Mark {
+    Nothing,
+    At(Checkpoint),
+}
+
+// A list has a scope, a start mark and a last mark.
+pub struct ListState {
+    pub scope: ParseScope,
+    pub start: Mark,
+    pub last: Mark,
+}
+
+// What is read, the first held token, the list that is read, the builder's numbers, and how many rows are dropped.
+pub struct Parser {
+    pub lexer: Lexer,
+    pub held: usize,
+    pub list: ListState,
+    pub builder: GreenNodeBuilder,
+    pub dropped: usize,
+}
+
+// What a routine comes to: the new state, or the number and the place of a refusal.
+pub enum Step {
+    Went(Parser),
+    Refused(u32, usize),
+}
+
+impl Parser {
+    pub fn with_lexer(self, lexer: Lexer) -> Self
+        ensures { λ r. ⌜ r ≡ relexed self lexer ⌝ }
+    {
+        let mut next = self;
+        next.lexer = lexer;
+        next
+    }
+
+    pub fn with_list(self, list: ListState) -> Self
+        ensures { λ r. ⌜ r ≡ relisted self list ⌝ }
+    {
+        let mut next = self;
+        next.list = list;
+        next
+    }
+
+    pub fn with_marks(self, start: Mark, last: Mark) -> Self
+        ensures { λ r. ⌜ r ≡ remarked self start last ⌝ }
+    {
+        let list = self.list;
+        let scope = list.scope;
+        self.with_list(ListState { scope, start, last })
+    }
+
+    // Nothing is held.
+    pub fn holding_none(self) -> Self
+        ensures { λ r. ⌜ r ≡ unheld self ⌝ }
+    {
+        let mut next = self;
+        next.held = self.lexer.token;
+        next
+    }
+
+    // What the builder came to, with all else as it is.
+    fn building(self, built: Built) -> Step
+        ensures { λ r. ⌜ r ≡ buildingOf self built ⌝ }
+    {
+        match built {
+            Built::Went(builder) => {
+                let mut next = self;
+                next.builder = builder;
+                Step::Went(next)
+            }
+            Built::Refused(number, place) => Step::Refused(number, place),
+        }
+    }
+
+    // ---- the builder's operations, at the place of the first token not wholly read
+
+    pub fn leaf(self, tree: &mut [u32], kind: u32, start: u32, size: u32) -> Step
+        requires { ⌜ Fits (self .builder) (now tree) ⌝ }
+        ensures { λ r. ⌜ ((notes : List ℕ) (token : ℕ) → Told (λ n. spec.leaf (flat n) (record { token = token; kind = kind; start = start; size = size })) (λ q. Leafed self (now (tree .entry)) q (now (tree .exit))) self (record { tree = now (tree .entry); dropped = notes }) r (record { tree = now (tree .exit); dropped = notes })) ⌝ }
+    {
+        let built = self.builder
+            .token(tree, self.lexer.token, kind, start, size);
+        self.building(built)
+    }
+
+    pub fn start_node(self, tree: &mut [u32], kind: u32) -> Step
+        requires { ⌜ Fits (self .builder) (now tree) ⌝ }
+        ensures { λ r. ⌜ ((notes : List ℕ) → Opens (λ n. spec.start (flat n) kind) self (record { tree = now (tree .entry); dropped = notes }) r (record { tree = now (tree .exit); dropped = notes })) ⌝ }
+    {
+        let built = self.builder.start_node(tree, self.lexer.token, kind);
+        self.building(built)
+    }
+
+    pub fn finish_node(self, tree: &mut [u32], kind: u32, parent: Frame) -> Step
+        requires { ⌜ Fits (self .builder) (now tree) × Within (self .builder) ⌝ }
+        ensures { λ r. ⌜ ((notes : List ℕ) → Closes (λ n. spec.finish (flat n) kind (shown.frameOf parent)) (parent .first) (parent .node) self (record { tree = now (tree .entry); dropped = notes }) r (record { tree = now (tree .exit); dropped = notes })) ⌝ }
+    {
+        let built = self.builder
+            .finish_node(tree, self.lexer.token, kind, parent);
+        self.building(built)
+    }
+
+    pub fn wrap(self, tree: &mut [u32], kind: u32, at: Checkpoint) -> Step
+        requires { ⌜ Fits (self .builder) (now tree) × Within (self .builder) × Inside at (self .builder) ⌝ }
+        ensures { λ r. ⌜ ((notes : List ℕ) → Opens (λ n. spec.wrap (flat n) kind (shown.markOf at)) self (record { tree = now (tree .entry); dropped = notes }) r (record { tree = now (tree .exit); dropped = notes })) ⌝ }
+    {
+        let built = self.builder.wrap(tree, self.lexer.token, kind, at);
+        self.building(built)
+    }
+}

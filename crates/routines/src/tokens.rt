@@ -1,0 +1,113 @@
+// Tokens become leaves: `eat`, `eat_as`, `eat_if`, `trivia`, `single_char`.
+ghost use mathlib.Core.Path.{_≡_};
+ghost use mathlib.Core.List.{List};
+ghost use Prim.Native.Nat.{ℕ, _<_};
+ghost use Rattle.rules.specs.Flat.{flat};
+ghost use Rattle.rules.specs.Cursor.{peek, peekText};
+ghost use Rattle.rules.specs.Kinds.{isTrivia};
+ghost use Rattle.rules.specs.Position.{asked};
+ghost use Rattle.rules.specs.Tables.{tokenCount, kindAt};
+ghost use Rattle.rules.specs.Token.{Word as wordKind};
+ghost use Rattle.lexer.specs.Reading.{cursorOf};
+ghost use Rattle.rules.specs.Routines as spec;
+ghost use Rattle.routines.specs.Contract.{Ran, Somehow};
+use crate::state::Parser;
+use crate::state::Step;
+use lexer::Column;
+use lexer::Peeked;
+use lexer::cell;
+use lexer::char_len;
+use syntax::SyntaxKind;
+use syntax::Token;
+
+// What is left of the next token becomes a leaf of this kind.
+pub fn eat_as(tokens: &[u32], tree: &mut [u32], p: Parser, kind: u32) -> Step
+    requires { ⌜ (p .lexer .token < tokenCount (now tokens)) × Somehow (λ t. t .tokens ≡ now tokens) p (now tree) ⌝ }
+    ensures { λ r. ⌜ ((notes : List ℕ) → Ran (λ t. t .tokens ≡ now (tokens .entry)) 1 (λ s n. spec.eatAs (flat n) s kind) p (record { tree = now (tree .entry); dropped = notes }) r (record { tree = now (tree .exit); dropped = notes })) ⌝ }
+{
+    let start = p.lexer.rest_start(tokens);
+    let size = p.lexer.rest_length(tokens);
+    let r = p.leaf(tree, kind, start, size);
+    let Step::Went(q) = r else {
+        return r;
+    };
+    Step::Went(q.with_lexer(q.lexer.eat()))
+}
+
+pub fn eat(tokens: &[u32], tree: &mut [u32], p: Parser) -> Step
+    requires { ⌜ (p .lexer .token < tokenCount (now tokens)) × Somehow (λ t. t .tokens ≡ now tokens) p (now tree) ⌝ }
+    ensures { λ r. ⌜ ((notes : List ℕ) → Ran (λ t. t .tokens ≡ now (tokens .entry)) 1 (λ s n. spec.eat (flat n) s) p (record { tree = now (tree .entry); dropped = notes }) r (record { tree = now (tree .exit); dropped = notes })) ⌝ }
+{
+    let kind = SyntaxKind::from_token(cell(tokens, p.lexer.token, Column::KIND));
+    eat_as(tokens, tree, p, kind)
+}
+
+pub fn eat_if(tokens: &[u32], tree: &mut [u32], p: Parser, kind: u32) -> Step
+    requires { ⌜ Somehow (λ t. t .tokens ≡ now tokens) p (now tree) ⌝ }
+    ensures { λ r. ⌜ ((notes : List ℕ) → Ran (λ t. t .tokens ≡ now (tokens .entry)) 0 (λ s n. spec.eatIf (flat n) s kind) p (record { tree = now (tree .entry); dropped = notes }) r (record { tree = now (tree .exit); dropped = notes })) ⌝ }
+{
+    let peeked = p.lexer.peek(tokens);
+    let Peeked::Kind(next) = peeked else {
+        return Step::Went(p);
+    };
+    if next == kind {
+        return eat(tokens, tree, p);
+    }
+    Step::Went(p)
+}
+
+// Whether a next token is there that is trivia.
+fn more_trivia(tokens: &[u32], p: Parser) -> bool
+    ensures { λ r. ⌜ r ≡ asked isTrivia (peek (now (tokens .entry)) (cursorOf (p .lexer))) ⌝ }
+{
+    let peeked = p.lexer.peek(tokens);
+    let Peeked::Kind(kind) = peeked else {
+        return false;
+    };
+    Token::is_trivia(kind)
+}
+
+pub fn trivia(tokens: &[u32], tree: &mut [u32], p: Parser) -> Step
+    requires { ⌜ Somehow (λ t. t .tokens ≡ now tokens) p (now tree) ⌝ }
+    ensures { λ r. ⌜ ((notes : List ℕ) → Ran (λ t. t .tokens ≡ now (tokens .entry)) 0 (λ s n. spec.trivia (flat n) s) p (record { tree = now (tree .entry); dropped = notes }) r (record { tree = now (tree .exit); dropped = notes })) ⌝ }
+{
+    let mut now = p;
+    while more_trivia(tokens, now) {
+        let r = eat(tokens, tree, now);
+        let Step::Went(q) = r else {
+            return r;
+        };
+        now = q;
+    }
+    Step::Went(now)
+}
+
+// The first character of a Word, or of what is left of one, becomes a leaf.
+pub fn single_char(tokens: &[u32], tree: &mut [u32], p: Parser, word: &[u8]) -> Step
+    requires { ⌜ (p .lexer .token < tokenCount (now tokens)) × (kindAt (now tokens) (p .lexer .token) ≡ wordKind) × Somehow (λ t. (t .tokens ≡ now tokens) × (now word ≡ peekText (t .text) (now tokens) (cursorOf (p .lexer)))) p (now tree) ⌝ }
+    ensures { λ r. ⌜ ((notes : List ℕ) → Ran (λ t. (t .tokens ≡ now (tokens .entry)) × (now (word .entry) ≡ peekText (t .text) (now (tokens .entry)) (cursorOf (p .lexer)))) 1 (λ s n. spec.singleChar (flat n) s) p (record { tree = now (tree .entry); dropped = notes }) r (record { tree = now (tree .exit); dropped = notes })) ⌝ }
+{
+    let size = char_len(word);
+    let start = p.lexer.rest_start(tokens);
+    let r = p.leaf(tree, SyntaxKind::TOKEN_WORD, start, size as u32);
+    let Step::Went(q) = r else {
+        return r;
+    };
+    Step::Went(q.with_lexer(q.lexer.consume_utf8_bytes(tokens, size)))
+}
+
+// A node of a kind with one token in it.
+pub fn one_in(tokens: &[u32], tree: &mut [u32], p: Parser, kind: u32) -> Step
+    requires { ⌜ (p .lexer .token < tokenCount (now tokens)) × Somehow (λ t. t .tokens ≡ now tokens) p (now tree) ⌝ }
+    ensures { λ r. ⌜ ((notes : List ℕ) → Ran (λ t. t .tokens ≡ now (tokens .entry)) 1 (λ s n. spec.oneIn (flat n) s kind) p (record { tree = now (tree .entry); dropped = notes }) r (record { tree = now (tree .exit); dropped = notes })) ⌝ }
+{
+    let r = p.start_node(tree, kind);
+    let Step::Went(a) = r else {
+        return r;
+    };
+    let q = eat(tokens, tree, a);
+    let Step::Went(b) = q else {
+        return q;
+    };
+    b.finish_node(tree, kind, p.builder.frame())
+}
