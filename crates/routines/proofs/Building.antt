@@ -66,7 +66,7 @@ module _ (p : Parser) (t v notes : List ℕ) where
         last = mark-more (p .list .last) (p .builder) u more (s .last);
         dropped = s .dropped;
         notes = s .notes;
-        leaves = let bound = s .leaves in omega arith;
+        light = let bound = s .light in omega arith;
       }
 
   pub on-the-way : {tables : Tables} (u : GreenNodeBuilder) → length v ≡ length t → drop (u .rows * 4) v ≡ drop (u .rows * 4) t → p .builder .rows ≤ u .rows → u .leaves ≡ p .builder .leaves
@@ -81,7 +81,7 @@ module _ (p : Parser) (t v notes : List ℕ) where
         dropped = omega arith;
         token = omega arith;
         read = omega arith;
-        leaves = omega arith;
+        light = omega arith;
       }
 
   pub begun : {tables : Tables} (u : GreenNodeBuilder) → length v ≡ length t → Steady tables p before → facts.Opens (p .builder) t u v → Begun tables p before (rebuilt p u) after

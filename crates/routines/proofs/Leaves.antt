@@ -34,6 +34,7 @@ use Rattle.routines.proofs.Walk.{Stopped, stop, stopped}
 pub record Onward (t : Tables) (p : Parser) (to : Cursor) : Type 0 where
   pub fine : Fine (t .text) (t .tokens) to
   pub token : p .lexer .token ≤ to .token
+  pub near : to .token ≤ p .lexer .token + 1
   pub inside : to .token ≤ tokenCount (t .tokens)
   pub less : left (t .tokens) to < left (t .tokens) (cursorOf (p .lexer))
 
@@ -51,6 +52,8 @@ module _ (t : Tables) (p : Parser) (tree after notes : List ℕ) (ready : Ready 
       let rows = w .rows in
       let leaves = w .leaves in
       let less = on .less in
+      let near = on .near in
+      let held = w .held in
       let dropped = w .dropped in
       let within = ready .within in
       let first = w .first in
@@ -66,7 +69,7 @@ module _ (t : Tables) (p : Parser) (tree after notes : List ℕ) (ready : Ready 
           dropped = omega arith;
           token = on .token;
           read = omega arith;
-          leaves = omega arith;
+          light = omega arith;
         };
         ready = record {
           steady = record {
@@ -78,7 +81,7 @@ module _ (t : Tables) (p : Parser) (tree after notes : List ℕ) (ready : Ready 
             last = rw (w .list) (mark-more (p .list .last) (p .builder) (q .builder) (omega arith) (s .last));
             dropped = let token = on .token in let few = s .dropped in omega arith;
             notes = s .notes;
-            leaves = let bound = s .leaves in omega arith;
+            light = let bound = s .light in omega arith;
           };
           within = record { depth = omega arith; first = omega arith; node = omega arith };
         };
@@ -121,7 +124,7 @@ pub onward-eaten : {t : Tables} {p : Parser} {m : Buffers} {l : Lexer} → Ready
 onward-eaten {t} {p} ready there e =
     let fine = ready .steady .fine in
     let less = left-eaten fine there in
-    rw e (record { fine = eaten-fine fine; token = omega arith; inside = omega arith; less = less })
+    rw e (record { fine = eaten-fine fine; token = omega arith; near = omega arith; inside = omega arith; less = less })
 
 -- `eat_as` as a leaf and a step of the cursor
 pub eat-as-is : (t : Tables) (tokens : List ℕ) (p : Parser) (m : Buffers) (kind start size : ℕ) → t .tokens ≡ tokens → start ≡ restStart tokens (cursorOf (p .lexer)) → size ≡ restLength tokens (cursorOf (p .lexer)) → (n : ℕ)
@@ -141,9 +144,9 @@ pub seen-less : {sees less : Tables → Type 0} {p : Parser} {tree : List ℕ} �
 seen-less f s = record { t = s .t; notes = s .notes; seen = f (s .t) (s .seen); ready = s .ready }
 
 -- a step within a token or over it goes no further than the end
-consumed-inside : (tokens : List ℕ) (count : ℕ) (c : Cursor) → c .token < tokenCount tokens → (c .token ≤ consumed tokens count c .token) × (consumed tokens count c .token ≤ tokenCount tokens)
+consumed-inside : (tokens : List ℕ) (count : ℕ) (c : Cursor) → c .token < tokenCount tokens → (c .token ≤ consumed tokens count c .token) × (consumed tokens count c .token ≤ c .token + 1) × (consumed tokens count c .token ≤ tokenCount tokens)
 consumed-inside tokens count c there =
-    ⊎-elim (λ all. rw (consumed-all tokens count c all) (omega arith, omega arith)) (λ more. rw (consumed-part tokens count c more) (omega arith, omega arith))
+    ⊎-elim (λ all. rw (consumed-all tokens count c all) (omega arith, omega arith, omega arith)) (λ more. rw (consumed-part tokens count c more) (omega arith, omega arith, omega arith))
     (le-or-lt (restLength tokens c) count)
 
 pub onward-char : {t : Tables} {p : Parser} {m : Buffers} {l : Lexer} → Ready t p m → p .lexer .token < tokenCount (t .tokens) → kindAt (t .tokens) (p .lexer .token) ≡ Token.Word
@@ -151,7 +154,7 @@ pub onward-char : {t : Tables} {p : Parser} {m : Buffers} {l : Lexer} → Ready 
 onward-char {t} {p} ready there word e =
     let fine = ready .steady .fine in
     let inside = consumed-inside (t .tokens) (charLength (peekText (t .text) (t .tokens) (cursorOf (p .lexer)))) (cursorOf (p .lexer)) there in
-    rw e (record { fine = char-fine fine there word; token = inside .0; inside = inside .1; less = char-left fine there word })
+    rw e (record { fine = char-fine fine there word; token = inside .0; near = inside .1; inside = inside .2; less = char-left fine there word })
 
 -- `single_char` as a leaf and a step of the cursor
 pub single-char-is : (t : Tables) (tokens word : List ℕ) (p : Parser) (m : Buffers) (start size : ℕ) → t .tokens ≡ tokens → word ≡ peekText (t .text) tokens (cursorOf (p .lexer)) → start ≡ restStart tokens (cursorOf (p .lexer))

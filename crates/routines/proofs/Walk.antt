@@ -84,12 +84,12 @@ passed-then {m} {q} {v} {z} a b =
       dropped = omega arith;
       token = omega arith;
       read = omega arith;
-      leaves = omega arith;
+      light = omega arith;
     }
 
 -- nothing was done
 pub stays : {t : Tables} {p : Parser} {m : Buffers} → Passed t 0 p m p m
-stays = record { tree = refl; notes = refl; tree-long = refl; notes-long = refl; rows = omega arith; dropped = omega arith; token = omega arith; read = omega arith; leaves = omega arith }
+stays = record { tree = refl; notes = refl; tree-long = refl; notes-long = refl; rows = omega arith; dropped = omega arith; token = omega arith; read = omega arith; light = omega arith }
 
 -- less is claimed of what was read
 pub weaker : {t : Tables} {g : ℕ} {p : Parser} {m : Buffers} {q : Parser} {v : Buffers} (h : ℕ) → h ≤ g → Passed t g p m q v → Passed t h p m q v
@@ -103,7 +103,7 @@ weaker h le a =
       dropped = a .dropped;
       token = a .token;
       read = let read = a .read in omega arith;
-      leaves = a .leaves;
+      light = a .light;
     }
 
 -- ---- where the code stands

@@ -37,6 +37,10 @@ pub record Good (t : Tables) : Type 0 where
 abbrev pub leftOf : Tables → Parser → ℕ
 leftOf t p = left (t .tokens) (cursorOf (p .lexer))
 
+-- a weight that no step raises: each leaf takes something of what is left to read, or was held before
+abbrev pub weight : Tables → Parser → ℕ
+weight t p = p .builder .leaves + (p .lexer .token - p .held) + 2 * leftOf t p
+
 -- a state in its buffers: no token is passed that is not there, no row is counted that is not there, and no more is dropped than was passed
 pub record Steady (t : Tables) (p : Parser) (m : Buffers) : Type 0 where
   pub good : Good t
@@ -47,8 +51,8 @@ pub record Steady (t : Tables) (p : Parser) (m : Buffers) : Type 0 where
   pub last : MarkOk (p .list .last) (p .builder)
   pub dropped : p .dropped ≤ p .lexer .token
   pub notes : tokenCount (t .tokens) * droppedWidth ≤ length (m .dropped)
-  -- each leaf took something of what there was to read
-  pub leaves : p .builder .leaves + leftOf t p ≤ 2 ^ 31
+  -- so the leaves can be counted in 32 bits
+  pub light : weight t p ≤ 2 ^ 31
 
 -- and a node is open
 pub record Ready (t : Tables) (p : Parser) (m : Buffers) : Type 0 where
@@ -67,7 +71,7 @@ pub record Passed (t : Tables) (gain : ℕ) (p : Parser) (m : Buffers) (q : Pars
   pub dropped : p .dropped ≤ q .dropped
   pub token : p .lexer .token ≤ q .lexer .token
   pub read : leftOf t q + gain ≤ leftOf t p
-  pub leaves : q .builder .leaves + leftOf t q ≤ p .builder .leaves + leftOf t p
+  pub light : weight t q ≤ weight t p
 
 -- a routine that went: the same node is open, in a list of the same scope
 pub record Left (t : Tables) (gain : ℕ) (p : Parser) (m : Buffers) (q : Parser) (v : Buffers) : Type 0 where
@@ -143,7 +147,13 @@ pub record Runs (t : Tables) (gain : ℕ) (want : ℕ → ℕ → Out Here) (p :
   pub is : (d : ℕ) → nodes ≤ p .builder .depth + d → want (length (m .tree)) d ≡ outOf r v
   pub gone : Gone (λ q. Left t gain p m q v) r
 
--- tables and a dropped buffer for which the state is ready, whatever they are
+-- tables for which the state is ready, whatever they are
+pub record Known (sees : Tables → Type 0) (p : Parser) (m : Buffers) : Type 0 where
+  pub t : Tables
+  pub seen : sees t
+  pub ready : Ready t p m
+
+-- the same where the dropped buffer is not seen either
 pub record Somehow (sees : Tables → Type 0) (p : Parser) (tree : List ℕ) : Type 0 where
   pub t : Tables
   pub notes : List ℕ
