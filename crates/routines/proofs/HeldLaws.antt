@@ -81,15 +81,20 @@ holding-more h = let held = h .held in record { held = omega arith; dropped = h 
 
 -- ---- nothing is held
 
+-- nothing is held from now on, and so many rows are dropped
+lets-go : {t : Tables} {p : Parser} {tree before after : List ℕ} (count : ℕ) → p .dropped ≤ count → count ≤ p .lexer .token
+    → drop (count * droppedWidth) after ≡ drop (count * droppedWidth) before → length after ≡ length before → Ready t p (record { tree = tree; dropped = before })
+    → Left t 0 p (record { tree = tree; dropped = before })
+    (record { lexer = p .lexer; held = p .lexer .token; list = p .list; builder = p .builder; dropped = count }) (record { tree = tree; dropped = after })
+lets-go count more few rest long ready =
+    let s = ready .steady in
+    remains ready (record { tree = refl; notes = rest; tree-long = refl; notes-long = long; rows = omega arith; dropped = more; token = omega arith; read = omega arith; light = omega arith })
+    (s .fine) (s .token) few (s .fits) refl refl refl refl
+
 pub holds-none : {t : Tables} {p : Parser} {m : Buffers} {r : Parser} {lift : ℕ} → r ≡ unheld p
     → Call t (λ n d q. went (position.holdingNone (flat n) q)) lift (λ q. Left t 0 p m q m) p m (Went r) m
-holds-none {t} {p} e = rw e (record {
-  is = λ ready d h. refl;
-  gone = λ ready.
-      let s = ready .steady in
-      remains ready (record { tree = refl; notes = refl; tree-long = refl; notes-long = refl; rows = omega arith; dropped = omega arith; token = omega arith; read = omega arith; light = omega arith })
-      (s .fine) (s .token) (s .dropped) (s .fits) refl refl refl refl;
-})
+holds-none {p = p} e =
+    rw e (record { is = λ ready d h. refl; gone = λ ready. lets-go (p .dropped) (omega arith) (ready .steady .dropped) refl refl ready })
 
 pub holding-none : {t : Tables} {p : Parser} {m : Buffers} → Ready t p m → Holding (unheld p)
 holding-none ready = let few = ready .steady .dropped in record { held = omega arith; dropped = few }
@@ -181,12 +186,10 @@ pub ignores : {t : Tables} {p : Parser} {tree before : List ℕ} {r : Parser} {a
 ignores {t} {p} {tree} h k = record {
   is = λ ready d enough. k .is (sourceOf t) (length tree) tree;
   gone = λ ready.
-      let s = ready .steady in
       let held = h .held in
       let few = h .dropped in
       let rest = rw (k .state) at (k .rest) in
-      rw (k .state) (remains ready (record { tree = refl; notes = rest; tree-long = refl; notes-long = k .long; rows = omega arith; dropped = omega arith; token = omega arith; read = omega arith; light = omega arith })
-      (s .fine) (s .token) (omega arith) (s .fits) refl refl refl refl);
+      rw (k .state) (lets-go (p .dropped + (p .lexer .token - p .held)) (omega arith) (omega arith) rest (k .long) ready);
 }
 
 pub holding-ignored : {p : Parser} → Holding p → Holding (ignored p)

@@ -51,7 +51,7 @@ pub fn extract_holding_trivia(tokens: &[u32], tree: &mut [u32], p: Parser) -> St
     ensures { λ r. ⌜ ((notes : List ℕ) → Ran (λ t. t .tokens ≡ now (tokens .entry)) 0 (λ s n. spec.extractHoldingTrivia (flat n) s) p (record { tree = now (tree .entry); dropped = notes }) r (record { tree = now (tree .exit); dropped = notes })) ⌝ }
 {
     let mut now = p;
-    let mut i = p.held;
+    let mut i = now.held;
     while i < p.lexer.token {
         let kind = SyntaxKind::from_token(cell(tokens, i, Column::KIND));
         let start = cell(tokens, i, Column::START);
