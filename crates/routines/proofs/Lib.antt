@@ -4,3 +4,4 @@ pub mod Walk
 pub mod Asked
 pub mod Leaves
 pub mod Eating
+pub mod HeldLaws

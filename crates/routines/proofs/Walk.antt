@@ -68,7 +68,7 @@ two-steps f g n d q = then-last (f n d q)
 -- ---- on the way
 
 -- what two lists share behind a place, they share behind a later one
-drop-more : (n m : ℕ) (x y : List ℕ) → n ≤ m → drop n x ≡ drop n y → drop m x ≡ drop m y
+pub drop-more : (n m : ℕ) (x y : List ℕ) → n ≤ m → drop n x ≡ drop n y → drop m x ≡ drop m y
 drop-more n m x y le e =
     let up : n + (m - n) ≡ m = omega arith in
     rw (← up) (sym (drop-drop (m - n) n x) ∙ ap (λ (l : List ℕ). drop (m - n) l) e ∙ drop-drop (m - n) n y)

@@ -1,5 +1,5 @@
 -- A state with one part of it changed.
-use Prim.Native.Nat.{ℕ}
+use Prim.Native.Nat.{ℕ, _+_, _-_}
 use Rattle.lexer.specs.declared.cursor.Lexer.{Lexer}
 use Rattle.builder.specs.declared.GreenNodeBuilder.{GreenNodeBuilder}
 use Rattle.builder.specs.declared.Built.{Built}
@@ -28,3 +28,7 @@ rebuilt p b = record { lexer = p .lexer; held = p .held; list = p .list; builder
 abbrev pub buildingOf : Parser → Built → Step
 buildingOf p (built.Went b) = Went (rebuilt p b)
 buildingOf p (built.Refused number place) = Refused number place
+
+-- what was held has a dropped row for each token
+abbrev pub ignored : Parser → Parser
+ignored p = record { lexer = p .lexer; held = p .lexer .token; list = p .list; builder = p .builder; dropped = p .dropped + (p .lexer .token - p .held) }

@@ -4,7 +4,9 @@ use mathlib.Core.Path.{_≡_}
 use mathlib.Core.List.{List}
 use lib.ListN.{length, drop}
 use Rattle.rules.specs.Limits.{tokens, nodes, treeWidth, droppedWidth, shapeWidth}
-use Rattle.rules.specs.Outcome.{Out}
+use Rattle.rules.specs.Outcome.{Out, went}
+use Rattle.rules.specs.Flat.{flat}
+use Rattle.rules.specs.Routines.{ignoreHoldingTrivia}
 use Rattle.rules.specs.Checks.{Tables, sourceOf}
 use Rattle.rules.specs.Position.{Source}
 use Rattle.rules.specs.Tables.{tokenCount, shapeAt}
@@ -14,6 +16,7 @@ use Rattle.lexer.specs.Fine.{Sound, Fine}
 use Rattle.builder.specs.Contract.{Fits, Within, Inside}
 use Rattle.builder.specs.declared.GreenNodeBuilder.{GreenNodeBuilder}
 use Rattle.routines.specs.Stands.{Buffers, Here, posOf, outOf}
+use Rattle.routines.specs.Change.{ignored}
 use Rattle.routines.specs.declared.state.Mark.{Mark}
 use Rattle.routines.specs.declared.state.Mark.the-variants.{Nothing, At}
 use Rattle.routines.specs.declared.state.Parser.{Parser}
@@ -159,3 +162,25 @@ pub record Somehow (sees : Tables → Type 0) (p : Parser) (tree : List ℕ) : T
   pub notes : List ℕ
   pub seen : sees t
   pub ready : Ready t p (record { tree = tree; dropped = notes })
+
+-- ---- held trivia
+
+-- what is held was passed, and none of it is dropped yet
+pub record Holding (p : Parser) : Type 0 where
+  pub held : p .held ≤ p .lexer .token
+  pub dropped : p .dropped ≤ p .held
+
+-- and there is room for its dropped rows, in numbers of 32 bits
+pub record Droppable (p : Parser) (dropped : List ℕ) : Type 0 where
+  pub holding : Holding p
+  pub few : p .lexer .token ≤ tokens
+  pub room : p .lexer .token * droppedWidth ≤ length dropped
+  pub leaves : p .builder .leaves < 2 ^ 32
+
+-- it was dropped: the dropped rows are the rule's, whatever is read and whatever the tree's rows are, and behind them all is as it was
+pub record Ignored (p : Parser) (before : List ℕ) (r : Parser) (after : List ℕ) : Type 0 where
+  pub state : r ≡ ignored p
+  pub is : (s : Source) (n : ℕ) (tree : List ℕ)
+      → ignoreHoldingTrivia (flat n) s (posOf p (record { tree = tree; dropped = before })) ≡ went (posOf r (record { tree = tree; dropped = after }))
+  pub rest : drop (r .dropped * droppedWidth) after ≡ drop (r .dropped * droppedWidth) before
+  pub long : length after ≡ length before

@@ -1,7 +1,11 @@
 // The parser's state by value, and the routines of parser.rs that read no item inside another.
+mod held;
 mod state;
 mod tokens;
 
+pub use held::extract_holding_trivia;
+pub use held::hold_trivia;
+pub use held::ignore_holding_trivia;
 pub use state::ListState;
 pub use state::Mark;
 pub use state::Parser;

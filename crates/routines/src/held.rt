@@ -1,0 +1,67 @@
+// Held trivia, a range of tokens: from the first held one up to the next to be read.
+ghost use mathlib.Core.Path.{_≡_};
+ghost use mathlib.Core.List.{List};
+ghost use Prim.Native.Nat.{ℕ, _+_, _<_, _^_};
+ghost use Rattle.rules.specs.Flat.{flat};
+ghost use Rattle.rules.specs.Routines as spec;
+ghost use Rattle.routines.specs.Change.{relexed};
+ghost use Rattle.routines.specs.Contract.{Droppable, Ignored, Ran, Somehow};
+use crate::state::Parser;
+use crate::state::Step;
+use builder::drop_token;
+use lexer::Column;
+use lexer::cell;
+use syntax::Reason;
+use syntax::SyntaxKind;
+
+// The next token is held: it counts as read.
+pub fn hold_trivia(p: Parser) -> Parser
+    requires { ⌜ p .lexer .token < 2 ^ 63 ⌝ }
+    ensures { λ r. ⌜ r ≡ relexed p (record { token = p .lexer .token + 1; taken = 0 }) ⌝ }
+{
+    p.with_lexer(p.lexer.eat())
+}
+
+// What is held is dropped.
+pub fn ignore_holding_trivia(dropped: &mut [u32], p: Parser) -> Parser
+    requires { ⌜ Droppable p (now dropped) ⌝ }
+    ensures { λ r. ⌜ Ignored p (now (dropped .entry)) r (now (dropped .exit)) ⌝ }
+{
+    let mut i = p.held;
+    let mut count = p.dropped;
+    while i < p.lexer.token {
+        drop_token(
+            dropped,
+            count,
+            i as u32,
+            Reason::TRIVIA,
+            p.builder.leaves as u32,
+        );
+        i = i + 1;
+        count = count + 1;
+    }
+    let mut next = p.holding_none();
+    next.dropped = count;
+    next
+}
+
+// What is held becomes leaves.
+pub fn extract_holding_trivia(tokens: &[u32], tree: &mut [u32], p: Parser) -> Step
+    requires { ⌜ Somehow (λ t. t .tokens ≡ now tokens) p (now tree) ⌝ }
+    ensures { λ r. ⌜ ((notes : List ℕ) → Ran (λ t. t .tokens ≡ now (tokens .entry)) 0 (λ s n. spec.extractHoldingTrivia (flat n) s) p (record { tree = now (tree .entry); dropped = notes }) r (record { tree = now (tree .exit); dropped = notes })) ⌝ }
+{
+    let mut now = p;
+    let mut i = now.held;
+    while i < p.lexer.token {
+        let kind = SyntaxKind::from_token(cell(tokens, i, Column::KIND));
+        let start = cell(tokens, i, Column::START);
+        let size = cell(tokens, i, Column::LENGTH);
+        let r = now.leaf(tree, kind, start, size);
+        let Step::Went(q) = r else {
+            return r;
+        };
+        now = q;
+        i = i + 1;
+    }
+    Step::Went(now.holding_none())
+}
