@@ -1,8 +1,8 @@
 -- Held trivia: each token of a range is dropped, or becomes a leaf, in the order of holding; a held token that becomes a leaf adds nothing to the weight.
 -- Assumes nothing.
-use mathlib.Core.Path.{_≡_, refl, sym, ap, _∙_}
+use mathlib.Core.Path.{_≡_, refl, ap, _∙_}
 use mathlib.Core.List.{List, _++_}
-use Prim.Native.Nat.{ℕ, zero, suc, _+_, _*_, _-_, _≤_, _<_}
+use Prim.Native.Nat.{ℕ, suc, _+_, _*_, _-_, _≤_, _<_}
 use native.Mathlib.Omega.{arith}
 use lib.ListN.{length, take, drop}
 use Rattle.rules.specs.Limits.{treeWidth, droppedWidth}
@@ -66,7 +66,7 @@ module _ {t : Tables} {gain : ℕ} {p : Parser} {m : Buffers} {q : Parser} {v : 
 -- the next one, where there is one
 pub holds : {t : Tables} {p : Parser} {m : Buffers} {r : Parser} {lift : ℕ} → p .lexer .token < tokenCount (t .tokens) → r ≡ relexed p (record { token = p .lexer .token + 1; taken = 0 })
     → Call t (λ n d q. went (holdTrivia (flat n) (sourceOf t) q)) lift (λ q. Left t 1 p m q m) p m (Went r) m
-holds {t} {p} there e = rw e (record {
+holds there e = rw e (record {
   is = λ ready d h. refl;
   gone = λ ready.
       let s = ready .steady in
@@ -101,6 +101,7 @@ holding-none ready = let few = ready .steady .dropped in record { held = omega a
 
 -- ---- what is held is dropped
 
+-- a state that is ready has room for it
 pub droppable : {t : Tables} {p : Parser} {m : Buffers} → Ready t p m → Holding p → Droppable p (m .dropped)
 droppable ready h =
     let s = ready .steady in
@@ -139,6 +140,7 @@ module _ (p : Parser) (before : List ℕ) where
         let long = far .long in
         omega arith
 
+    -- one turn of it
     one-row : {v : List ℕ} → i < p .lexer .token → v ≡ take (count * droppedWidth) now ++ (droppedRow i reasonTrivia (p .builder .leaves) ++ drop (count * droppedWidth + droppedWidth) now) → (s : Source) (n : ℕ) (tree : List ℕ)
         → dropFrom (flat n) s (p .lexer .token - i) i (with-rows tree count now) ≡ dropFrom (flat n) s (p .lexer .token - (i + 1)) (i + 1) (with-rows tree (count + 1) v)
     unfolding dropFrom
@@ -293,7 +295,7 @@ module _ (tokens : List ℕ) (p : Parser) (tree : List ℕ) where
 
       pub extracting-stops : {any : List ℕ} → Stopped r → (notes : List ℕ) → Ran Sees 0 (λ s n. extractHoldingTrivia (flat n) s) p (with-notes tree notes) r (with-notes any notes)
       unfolding extractHoldingTrivia
-      extracting-stops {any} st notes = record {
+      extracting-stops st notes = record {
         told = λ t seen ready. record {
           is = stop _ _ _ (with-notes last notes) _ (far .is t notes seen ∙ turn t notes seen ∙ stop _ _ _ _ _ (this-is notes) st) st;
           gone = stopped _ _ st;
@@ -309,7 +311,7 @@ module _ (tokens : List ℕ) (p : Parser) (tree : List ℕ) where
         rw all
 
     pub extracting-ends : {u : Parser} → p .lexer .token ≤ i → u ≡ unheld q → (notes : List ℕ) → Ran Sees 0 (λ s n. extractHoldingTrivia (flat n) s) p (with-notes tree notes) (Went u) (with-notes after notes)
-    extracting-ends {u} end e notes = rw e (record {
+    extracting-ends end e notes = rw e (record {
       told = λ t seen ready.
           let s = ready .steady in
           let leaves = far .leaves in

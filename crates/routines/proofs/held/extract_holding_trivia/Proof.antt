@@ -39,9 +39,6 @@ returns c = extracting-stops _ _ _ (c .before .before .before .before .before .b
 add-i : tie.Need-add-i Inv-loop μ-loop
 add-i c = let small = small-token (c .before .before .before .before .before .before .before .before .before .before .before .before .before .before .before .before .pre) in omega arith
 
-loop-less : tie.Need-loop-less Inv-loop μ-loop
-loop-less c = omega arith
-
 loop-again : tie.Need-loop-again Inv-loop μ-loop
 loop-again c = extracting-goes-on _ _ _ (c .before .before .before .before .before .before .before .before .before .before .before .before .before .loop .inv) (c .before .before .before .before .before .before .before .before .before .before .before .if1 .taken) (c .before .before .before .before .before .before .before .before .before .from-token .ensures ∙ ap leafKind (c .before .before .before .before .before .before .before .before .before .before .cell .ensures)) (c .before .before .before .before .before .before .before .before .cell2 .ensures) (c .before .before .before .before .before .before .before .cell3 .ensures) (c .before .before .before .before .before .leaf .ensures) (c .before .before .before .before .before .leaf .kept .1 .0) (c .before .r .given .1)
 
@@ -68,7 +65,7 @@ extract-holding-trivia-spec =
     same-length
     returns
     add-i
-    loop-less
+    (λ c. search needs)
     loop-again
     (λ c κs. search needs)
     same-length-2

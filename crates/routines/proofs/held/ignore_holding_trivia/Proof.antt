@@ -1,6 +1,5 @@
 -- `held::ignore_holding_trivia` meets its contract: each turn drops the next held token, and as many rows are counted. Assumes nothing.
 use Prim.Native.Nat.{_-_}
-use native.Mathlib.Omega.{arith}
 use borrow.Author.Needs.{needs}
 use Rattle.routines.proofs.HeldLaws.{Dropping, dropping-begins, dropping-room, dropping-goes-on, dropping-ends}
 use Rattle.routines.proofs.held.ignore_holding_trivia.Statement.{statement}
@@ -15,26 +14,8 @@ abbrev μ-loop : tie.MeasureT-loop
 loop-holds : tie.Need-loop-holds Inv-loop μ-loop
 loop-holds c = dropping-begins _ _ (c .before .pre)
 
-cast-drop-token : tie.Need-cast-drop-token Inv-loop μ-loop
-cast-drop-token c = let few = c .before .before .before .before .before .pre .few in omega arith
-
-cast-drop-token-2 : tie.Need-cast-drop-token-2 Inv-loop μ-loop
-cast-drop-token-2 c = let leaves = c .before .before .before .before .before .before .pre .leaves in omega arith
-
 drop-token-requires : tie.Need-drop-token-requires Inv-loop μ-loop
 drop-token-requires c κs = dropping-room _ _ (c .before .before .before .before .before .before .pre) (c .before .before .before .before .loop .inv) (c .before .before .if1 .taken)
-
-add-i : tie.Need-add-i Inv-loop μ-loop
-add-i c = let few = c .before .before .before .before .before .before .before .before .before .pre .few in omega arith
-
-add-count : tie.Need-add-count Inv-loop μ-loop
-add-count c =
-    let few = c .before .before .before .before .before .before .before .before .before .pre in
-    let far = c .before .before .before .before .before .before .before .loop .inv in
-    omega arith
-
-loop-less : tie.Need-loop-less Inv-loop μ-loop
-loop-less c = omega arith
 
 loop-again : tie.Need-loop-again Inv-loop μ-loop
 loop-again c = dropping-goes-on _ _ (c .before .before .before .before .before .before .before .before .before .pre) (c .before .before .before .before .before .before .before .loop .inv) (c .before .before .before .before .before .if1 .taken) (c .before .before .drop-token .kept .0) (c .before .before .drop-token .ensures)
@@ -52,12 +33,12 @@ ignore-holding-trivia-spec =
     Inv-loop
     μ-loop
     loop-holds
-    cast-drop-token
-    cast-drop-token-2
+    (λ c. search needs)
+    (λ c. search needs)
     drop-token-requires
-    add-i
-    add-count
-    loop-less
+    (λ c. search needs)
+    (λ c. search needs)
+    (λ c. search needs)
     loop-again
     (λ c κs. search needs)
     same-length
