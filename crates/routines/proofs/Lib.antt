@@ -4,3 +4,6 @@ pub mod Walk
 pub mod Asked
 pub mod Leaves
 pub mod Eating
+pub mod Outside
+pub mod Dropping
+pub mod Skipping

@@ -1,7 +1,13 @@
 // The parser's state by value, and the routines of parser.rs that read no item inside another.
+mod bodies;
+mod skipped;
 mod state;
 mod tokens;
 
+pub use bodies::clause_lr;
+pub use bodies::start_command_at;
+pub use bodies::text;
+pub use skipped::skipped_body;
 pub use state::ListState;
 pub use state::Mark;
 pub use state::Parser;
