@@ -5,3 +5,6 @@ pub mod Asked
 pub mod Leaves
 pub mod Eating
 pub mod HeldLaws
+pub mod Outside
+pub mod Dropping
+pub mod Skipping

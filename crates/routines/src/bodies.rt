@@ -1,0 +1,128 @@
+// Items with no item inside: `text` and `clause_lr`; and `start_command_at`.
+ghost use mathlib.Core.Path.{_≡_};
+ghost use mathlib.Core.List.{List};
+ghost use Prim.Native.Nat.{ℕ, _<_};
+ghost use Rattle.rules.specs.Flat.{flat};
+ghost use Rattle.rules.specs.Cursor.{peek};
+ghost use Rattle.rules.specs.Kinds.{isTextComponent};
+ghost use Rattle.rules.specs.Position.{Source, asked};
+ghost use Rattle.rules.specs.Tables.{tokenCount};
+ghost use Rattle.lexer.specs.Reading.{cursorOf};
+ghost use Rattle.rules.specs.Routines as spec;
+ghost use Rattle.builder.specs.Contract.{Fits, Within};
+ghost use Rattle.routines.specs.Stands.{markOf};
+ghost use Rattle.routines.specs.Contract.{MarkOk, Opens, Ran, Somehow};
+use crate::state::Mark;
+use crate::state::Parser;
+use crate::state::Step;
+use crate::tokens::eat;
+use crate::tokens::eat_as;
+use crate::tokens::single_char;
+use crate::tokens::trivia;
+use items::is_command_name;
+use lexer::Peeked;
+use syntax::SyntaxKind;
+use syntax::Token;
+
+// Whether a next token is there that goes on a text.
+fn more_text(tokens: &[u32], p: Parser) -> bool
+    ensures { λ r. ⌜ r ≡ asked isTextComponent (peek (now (tokens .entry)) (cursorOf (p .lexer))) ⌝ }
+{
+    let peeked = p.lexer.peek(tokens);
+    let Peeked::Kind(kind) = peeked else {
+        return false;
+    };
+    Token::is_text_component(kind)
+}
+
+fn text_components(tokens: &[u32], tree: &mut [u32], p: Parser) -> Step
+    requires { ⌜ Somehow (λ t. t .tokens ≡ now tokens) p (now tree) ⌝ }
+    ensures { λ r. ⌜ ((notes : List ℕ) → Ran (λ t. t .tokens ≡ now (tokens .entry)) 0 (λ s n q. spec.eatWhile (flat n) s isTextComponent (spec.turns (flat n) s q) q) p (record { tree = now (tree .entry); dropped = notes }) r (record { tree = now (tree .exit); dropped = notes })) ⌝ }
+{
+    let mut now = p;
+    while more_text(tokens, now) {
+        let r = eat(tokens, tree, now);
+        let Step::Went(q) = r else {
+            return r;
+        };
+        now = q;
+    }
+    Step::Went(now)
+}
+
+pub fn text(tokens: &[u32], tree: &mut [u32], p: Parser) -> Step
+    requires { ⌜ (p .lexer .token < tokenCount (now tokens)) × Somehow (λ t. t .tokens ≡ now tokens) p (now tree) ⌝ }
+    ensures { λ r. ⌜ ((notes : List ℕ) → Ran (λ t. t .tokens ≡ now (tokens .entry)) 1 (λ s n. spec.text (flat n) s) p (record { tree = now (tree .entry); dropped = notes }) r (record { tree = now (tree .exit); dropped = notes })) ⌝ }
+{
+    let r = p.start_node(tree, SyntaxKind::ITEM_TEXT);
+    let Step::Went(a) = r else {
+        return r;
+    };
+    let q = eat(tokens, tree, a);
+    let Step::Went(b) = q else {
+        return q;
+    };
+    let o = text_components(tokens, tree, b);
+    let Step::Went(c) = o else {
+        return o;
+    };
+    c.finish_node(tree, SyntaxKind::ITEM_TEXT, p.builder.frame())
+}
+
+// What `clause_lr` takes as the delimiter.
+fn delimiter(text: &[u8], tokens: &[u32], tree: &mut [u32], p: Parser) -> Step
+    requires { ⌜ Somehow (λ t. (t .text ≡ now text) × (t .tokens ≡ now tokens)) p (now tree) ⌝ }
+    ensures { λ r. ⌜ ((notes : List ℕ) → Ran (λ t. (t .text ≡ now (text .entry)) × (t .tokens ≡ now (tokens .entry))) 0 (λ s n. spec.delimiter (flat n) s) p (record { tree = now (tree .entry); dropped = notes }) r (record { tree = now (tree .exit); dropped = notes })) ⌝ }
+{
+    let peeked = p.lexer.peek(tokens);
+    let Peeked::Kind(kind) = peeked else {
+        return Step::Went(p);
+    };
+    if kind == Token::GENERIC {
+        return eat_as(tokens, tree, p, SyntaxKind::TOKEN_COMMAND_SYM);
+    }
+    if is_command_name(kind) {
+        return Step::Went(p);
+    }
+    if kind == Token::DOLLAR {
+        return Step::Went(p);
+    }
+    if kind == Token::WORD {
+        return single_char(tokens, tree, p, p.lexer.peek_text(text, tokens));
+    }
+    eat(tokens, tree, p)
+}
+
+pub fn clause_lr(text: &[u8], tokens: &[u32], tree: &mut [u32], p: Parser) -> Step
+    requires { ⌜ (p .lexer .token < tokenCount (now tokens)) × Somehow (λ t. (t .text ≡ now text) × (t .tokens ≡ now tokens)) p (now tree) ⌝ }
+    ensures { λ r. ⌜ ((notes : List ℕ) → Ran (λ t. (t .text ≡ now (text .entry)) × (t .tokens ≡ now (tokens .entry))) 1 (λ s n. spec.clauseLr (flat n) s) p (record { tree = now (tree .entry); dropped = notes }) r (record { tree = now (tree .exit); dropped = notes })) ⌝ }
+{
+    let r = p.start_node(tree, SyntaxKind::CLAUSE_LR);
+    let Step::Went(a) = r else {
+        return r;
+    };
+    let q = eat(tokens, tree, a);
+    let Step::Went(b) = q else {
+        return q;
+    };
+    let o = trivia(tokens, tree, b);
+    let Step::Went(c) = o else {
+        return o;
+    };
+    let n = delimiter(text, tokens, tree, c);
+    let Step::Went(d) = n else {
+        return n;
+    };
+    d.finish_node(tree, SyntaxKind::CLAUSE_LR, p.builder.frame())
+}
+
+// A command's node, around what stands from a mark on if there is one.
+pub fn start_command_at(tree: &mut [u32], p: Parser, at: Mark) -> Step
+    requires { ⌜ Fits (p .builder) (now tree) × Within (p .builder) × MarkOk at (p .builder) ⌝ }
+    ensures { λ r. ⌜ ((s : Source) (notes : List ℕ) → Opens (λ n. spec.startCommandAt (flat n) s (markOf at)) p (record { tree = now (tree .entry); dropped = notes }) r (record { tree = now (tree .exit); dropped = notes })) ⌝ }
+{
+    match at {
+        Mark::Nothing => p.start_node(tree, SyntaxKind::ITEM_CMD),
+        Mark::At(checkpoint) => p.wrap(tree, SyntaxKind::ITEM_CMD, checkpoint),
+    }
+}
