@@ -1,6 +1,7 @@
 -- Theorems about the rules alone, and the laws by which other crates use their definitions.
 pub mod Alike
 pub mod Characters
+pub mod Checks
 pub mod Flat
 pub mod OnTree
 pub mod Related

@@ -1,0 +1,28 @@
+// Refusal 1: the tables are whole rows, and no limit is passed.
+ghost use mathlib.Core.Path.{_≡_};
+ghost use Prim.Native.Nat.{_<_};
+ghost use Rattle.rules.specs.Checks.{wholeRows, withinLimits};
+use syntax::Limits;
+
+// Whether a table is whole rows of so many numbers, at most so many of them.
+fn whole_rows(table: &[u32], width: usize, most: usize) -> bool
+    requires { ⌜ 0 < width ⌝ }
+    ensures { λ r. ⌜ r ≡ wholeRows width most (now (table .entry)) ⌝ }
+{
+    table.len() % width == 0 && table.len() / width <= most
+}
+
+pub fn within_limits(text: &[u8], tokens: &[u32], shapes: &[u32], states: &[u32]) -> bool
+    ensures { λ r. ⌜ r ≡ withinLimits (record { text = now (text .entry); tokens = now (tokens .entry); shapes = now (shapes .entry); states = now (states .entry) }) ⌝ }
+{
+    if Limits::TEXT < text.len() {
+        return false;
+    }
+    if !whole_rows(tokens, Limits::TOKEN_WIDTH, Limits::TOKENS) {
+        return false;
+    }
+    if !whole_rows(shapes, Limits::SHAPE_WIDTH, Limits::SHAPES) {
+        return false;
+    }
+    whole_rows(states, Limits::STATE_WIDTH, Limits::STATES)
+}

@@ -1,0 +1,86 @@
+// Refusal 4: the first shape or state row that is not as it must be, states counted on after shapes.
+ghost use mathlib.Core.Path.{_≡_};
+ghost use mathlib.Core.List.{List};
+ghost use Prim.Native.Nat.{ℕ, _+_, _*_, _/_, _≤_, _<_};
+ghost use lib.Dec.{leb};
+ghost use lib.ListN.{getD, length};
+ghost use Rattle.rules.specs.Checks.{firstBad, shapeOrStateRight, shapeRight, stateRight, valueRight};
+ghost use Rattle.rules.specs.Limits.{shapeWidth, stateWidth};
+ghost use Rattle.items.specs.Items.{shapeFor};
+ghost use Rattle.checks.specs.Checked.{badOf};
+use crate::bad::Bad;
+use items::Shape;
+use syntax::Class;
+use syntax::Form;
+use syntax::Limits;
+
+// The value that a form may have where there are so many states.
+fn value_right(states: usize, form: u32, value: u32) -> bool
+    ensures { λ r. ⌜ r ≡ valueRight states form value ⌝ }
+{
+    match form {
+        Form::FIXED => value <= Form::MOST,
+        Form::RANGE => value <= Form::MOST,
+        Form::GLOB => 1 <= value && value as usize <= states,
+        _ => value == 0,
+    }
+}
+
+fn shape_right(states: usize, shape: Shape) -> bool
+    ensures { λ r. ⌜ r ≡ shapeRight states (shapeFor shape) ⌝ }
+{
+    if shape.class == Class::COMMAND {
+        return shape.form <= Form::INFIX_GREEDY && value_right(states, shape.form, shape.value);
+    }
+    if shape.class == Class::ENVIRONMENT {
+        // Not left1 and not infix-greedy, the last two forms.
+        return shape.form < Form::LEFT1 && value_right(states, shape.form, shape.value);
+    }
+    false
+}
+
+// A next state is one of so many, or 0.
+fn next_right(states: &[u32], count: usize, at: usize) -> bool
+    requires { ⌜ at < length (now states) ⌝ }
+    ensures { λ r. ⌜ r ≡ leb (getD (now (states .entry)) at 0) count ⌝ }
+{
+    states[at] as usize <= count
+}
+
+fn state_right(states: &[u32], count: usize, row: usize) -> bool
+    requires { ⌜ row * stateWidth + stateWidth ≤ length (now states) ⌝ }
+    ensures { λ r. ⌜ r ≡ stateRight (now (states .entry)) count row ⌝ }
+{
+    let at = row * Limits::STATE_WIDTH;
+    if !next_right(states, count, at) {
+        return false;
+    }
+    if !next_right(states, count, at + 1) {
+        return false;
+    }
+    next_right(states, count, at + 2)
+}
+
+fn shape_or_state_right(shapes: &[u32], states: &[u32], row: usize) -> bool
+    requires { ⌜ row < length (now shapes) / shapeWidth + length (now states) / stateWidth ⌝ }
+    ensures { λ r. ⌜ ((text tokens : List ℕ) → r ≡ shapeOrStateRight (record { text = text; tokens = tokens; shapes = now (shapes .entry); states = now (states .entry) }) row) ⌝ }
+{
+    let shape_count = shapes.len() / Limits::SHAPE_WIDTH;
+    let state_count = states.len() / Limits::STATE_WIDTH;
+    if row < shape_count {
+        return shape_right(state_count, Shape::row(shapes, row));
+    }
+    state_right(states, state_count, row - shape_count)
+}
+
+pub fn first_bad_shape_or_state(shapes: &[u32], states: &[u32]) -> Bad
+    ensures { λ r. ⌜ ((text tokens : List ℕ) → firstBad (shapeOrStateRight (record { text = text; tokens = tokens; shapes = now (shapes .entry); states = now (states .entry) })) (length (now (shapes .entry)) / shapeWidth + length (now (states .entry)) / stateWidth) 0 ≡ badOf r) ⌝ }
+{
+    let count = shapes.len() / Limits::SHAPE_WIDTH + states.len() / Limits::STATE_WIDTH;
+    for row in 0..count {
+        if !shape_or_state_right(shapes, states, row) {
+            return Bad::Row(row);
+        }
+    }
+    Bad::Nowhere
+}

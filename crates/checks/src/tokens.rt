@@ -1,0 +1,59 @@
+// Refusal 3: the first token row that is not as it must be.
+ghost use mathlib.Core.Path.{_≡_};
+ghost use mathlib.Core.List.{List};
+ghost use Prim.Native.Nat.{ℕ, _+_, _≤_, _<_};
+ghost use lib.ListN.{length};
+ghost use Rattle.rules.specs.Checks.{firstBad, tokenRight, wordRight};
+ghost use Rattle.rules.specs.Tables.{lengthAt, startAt, tokenCount};
+ghost use Rattle.checks.specs.Checked.{badOf};
+use crate::bad::Bad;
+use lexer::Column;
+use lexer::cell;
+use lexer::is_utf8;
+use syntax::Limits;
+use syntax::Token;
+
+// A Word's own bytes, a part of the caller's text, are there and are UTF-8.
+fn word_right(text: &[u8], tokens: &[u32], token: usize) -> bool
+    requires { ⌜ (token < tokenCount (now tokens)) × (startAt (now tokens) token + lengthAt (now tokens) token ≤ length (now text)) ⌝ }
+    ensures { λ r. ⌜ ((shapes states : List ℕ) → r ≡ wordRight (record { text = now (text .entry); tokens = now (tokens .entry); shapes = shapes; states = states }) token) ⌝ }
+{
+    let start = cell(tokens, token, Column::START) as usize;
+    let end = start + cell(tokens, token, Column::LENGTH) as usize;
+    start < end && is_utf8(&text[start..end])
+}
+
+fn token_right(text: &[u8], tokens: &[u32], shapes: &[u32], token: usize) -> bool
+    requires { ⌜ token < tokenCount (now tokens) ⌝ }
+    ensures { λ r. ⌜ ((states : List ℕ) → r ≡ tokenRight (record { text = now (text .entry); tokens = now (tokens .entry); shapes = now (shapes .entry); states = states }) token) ⌝ }
+{
+    let kind = cell(tokens, token, Column::KIND);
+    if Limits::KINDS <= kind as usize {
+        return false;
+    }
+    let start = cell(tokens, token, Column::START) as usize;
+    let length = cell(tokens, token, Column::LENGTH) as usize;
+    // In 64 bits: together they may pass 32.
+    if text.len() < start + length {
+        return false;
+    }
+    if shapes.len() / Limits::SHAPE_WIDTH < cell(tokens, token, Column::SHAPE) as usize {
+        return false;
+    }
+    if kind == Token::WORD {
+        return word_right(text, tokens, token);
+    }
+    true
+}
+
+pub fn first_bad_token(text: &[u8], tokens: &[u32], shapes: &[u32]) -> Bad
+    ensures { λ r. ⌜ ((states : List ℕ) → firstBad (tokenRight (record { text = now (text .entry); tokens = now (tokens .entry); shapes = now (shapes .entry); states = states })) (tokenCount (now (tokens .entry))) 0 ≡ badOf r) ⌝ }
+{
+    let count = tokens.len() / Limits::TOKEN_WIDTH;
+    for token in 0..count {
+        if !token_right(text, tokens, shapes, token) {
+            return Bad::Row(token);
+        }
+    }
+    Bad::Nowhere
+}
