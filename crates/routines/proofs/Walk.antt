@@ -113,7 +113,7 @@ abbrev pub Home : ℕ → Parser → Parser → Type 0
 Home zero s u = (u .builder .first ≡ s .builder .first) × (u .builder .node ≡ s .builder .node)
 Home (suc lift) s u = Unit {0}
 
-stays-home : (lift : ℕ) (s u z : Parser) → z .builder .first ≡ u .builder .first → z .builder .node ≡ u .builder .node → Home lift s u → Home lift s z
+pub stays-home : (lift : ℕ) (s u z : Parser) → z .builder .first ≡ u .builder .first → z .builder .node ≡ u .builder .node → Home lift s u → Home lift s z
 stays-home zero s u z a b h = (a ∙ h .0, b ∙ h .1)
 stays-home (suc lift) s u z a b h = tt
 
