@@ -1,2 +1,3 @@
--- Laws for the proofs of the functions.
+-- What an answer tells the caller, and laws for the proofs of the functions.
+pub mod Answers
 pub mod Asked
