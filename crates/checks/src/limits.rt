@@ -1,4 +1,4 @@
-// Refusal 1: the tables are whole rows, and no limit is passed.
+// Refusal 1: a limit is passed, or a table isn't whole rows.
 ghost use mathlib.Core.Path.{_≡_};
 ghost use Prim.Native.Nat.{_<_};
 ghost use Rattle.rules.specs.Checks.{wholeRows, withinLimits};
@@ -12,6 +12,7 @@ fn whole_rows(table: &[u32], width: usize, most: usize) -> bool
     table.len() % width == 0 && table.len() / width <= most
 }
 
+// Whether no limit is passed and every table is whole rows.
 pub fn within_limits(text: &[u8], tokens: &[u32], shapes: &[u32], states: &[u32]) -> bool
     ensures { λ r. ⌜ r ≡ withinLimits (record { text = now (text .entry); tokens = now (tokens .entry); shapes = now (shapes .entry); states = now (states .entry) }) ⌝ }
 {

@@ -15,7 +15,7 @@ pub enum Checked {
     Refused(u32, usize),
 }
 
-// The tables, beside a dropped buffer of so many numbers.
+// The tables are judged beside a dropped buffer of so many numbers. Nothing is asked of them.
 pub fn check(text: &[u8], tokens: &[u32], shapes: &[u32], states: &[u32], dropped: usize) -> Checked
     ensures { λ r. ⌜ checks (record { text = now (text .entry); tokens = now (tokens .entry); shapes = now (shapes .entry); states = now (states .entry) }) dropped ≡ checkedOf r ⌝ }
 {

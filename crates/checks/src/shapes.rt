@@ -14,7 +14,7 @@ use syntax::Class;
 use syntax::Form;
 use syntax::Limits;
 
-// The value that a form may have where there are so many states.
+// Whether a form may have this value where there are so many states.
 fn value_right(states: usize, form: u32, value: u32) -> bool
     ensures { λ r. ⌜ r ≡ valueRight states form value ⌝ }
 {
@@ -26,6 +26,7 @@ fn value_right(states: usize, form: u32, value: u32) -> bool
     }
 }
 
+// Whether the class, the form and its value may stand together.
 fn shape_right(states: usize, shape: Shape) -> bool
     ensures { λ r. ⌜ r ≡ shapeRight states (shapeFor shape) ⌝ }
 {
@@ -39,7 +40,7 @@ fn shape_right(states: usize, shape: Shape) -> bool
     false
 }
 
-// A next state is one of so many, or 0.
+// Whether a next state is one of so many, or 0.
 fn next_right(states: &[u32], count: usize, at: usize) -> bool
     requires { ⌜ at < length (now states) ⌝ }
     ensures { λ r. ⌜ r ≡ leb (getD (now (states .entry)) at 0) count ⌝ }
@@ -47,6 +48,7 @@ fn next_right(states: &[u32], count: usize, at: usize) -> bool
     states[at] as usize <= count
 }
 
+// Whether the three next states of a row are.
 fn state_right(states: &[u32], count: usize, row: usize) -> bool
     requires { ⌜ row * stateWidth + stateWidth ≤ length (now states) ⌝ }
     ensures { λ r. ⌜ r ≡ stateRight (now (states .entry)) count row ⌝ }
@@ -61,6 +63,7 @@ fn state_right(states: &[u32], count: usize, row: usize) -> bool
     next_right(states, count, at + 2)
 }
 
+// A row behind the last shape is a state's.
 fn shape_or_state_right(shapes: &[u32], states: &[u32], row: usize) -> bool
     requires { ⌜ row < length (now shapes) / shapeWidth + length (now states) / stateWidth ⌝ }
     ensures { λ r. ⌜ ((text tokens : List ℕ) → r ≡ shapeOrStateRight (record { text = text; tokens = tokens; shapes = now (shapes .entry); states = now (states .entry) }) row) ⌝ }
@@ -73,6 +76,7 @@ fn shape_or_state_right(shapes: &[u32], states: &[u32], row: usize) -> bool
     state_right(states, state_count, row - shape_count)
 }
 
+// One count runs through both tables.
 pub fn first_bad_shape_or_state(shapes: &[u32], states: &[u32]) -> Bad
     ensures { λ r. ⌜ ((text tokens : List ℕ) → firstBad (shapeOrStateRight (record { text = text; tokens = tokens; shapes = now (shapes .entry); states = now (states .entry) })) (length (now (shapes .entry)) / shapeWidth + length (now (states .entry)) / stateWidth) 0 ≡ badOf r) ⌝ }
 {

@@ -13,7 +13,7 @@ use lexer::is_utf8;
 use syntax::Limits;
 use syntax::Token;
 
-// A Word's own bytes, a part of the caller's text, are there and are UTF-8.
+// Whether a Word's own bytes, a part of the caller's text that starts in its middle, are one or more and UTF-8.
 fn word_right(text: &[u8], tokens: &[u32], token: usize) -> bool
     requires { ⌜ (token < tokenCount (now tokens)) × (startAt (now tokens) token + lengthAt (now tokens) token ≤ length (now text)) ⌝ }
     ensures { λ r. ⌜ ((shapes states : List ℕ) → r ≡ wordRight (record { text = now (text .entry); tokens = now (tokens .entry); shapes = shapes; states = states }) token) ⌝ }
@@ -23,6 +23,7 @@ fn word_right(text: &[u8], tokens: &[u32], token: usize) -> bool
     start < end && is_utf8(&text[start..end])
 }
 
+// Whether a token row has a kind of the forty, lies inside the text, has a shape of the table, and is right if it is a Word.
 fn token_right(text: &[u8], tokens: &[u32], shapes: &[u32], token: usize) -> bool
     requires { ⌜ token < tokenCount (now tokens) ⌝ }
     ensures { λ r. ⌜ ((states : List ℕ) → r ≡ tokenRight (record { text = now (text .entry); tokens = now (tokens .entry); shapes = now (shapes .entry); states = states }) token) ⌝ }
@@ -33,7 +34,7 @@ fn token_right(text: &[u8], tokens: &[u32], shapes: &[u32], token: usize) -> boo
     }
     let start = cell(tokens, token, Column::START) as usize;
     let length = cell(tokens, token, Column::LENGTH) as usize;
-    // In 64 bits: together they may pass 32.
+    // The sum is taken in 64 bits: it may pass 32.
     if text.len() < start + length {
         return false;
     }
@@ -46,6 +47,7 @@ fn token_right(text: &[u8], tokens: &[u32], shapes: &[u32], token: usize) -> boo
     true
 }
 
+// Unused rows are looked at too.
 pub fn first_bad_token(text: &[u8], tokens: &[u32], shapes: &[u32]) -> Bad
     ensures { λ r. ⌜ ((states : List ℕ) → firstBad (tokenRight (record { text = now (text .entry); tokens = now (tokens .entry); shapes = now (shapes .entry); states = states })) (tokenCount (now (tokens .entry))) 0 ≡ badOf r) ⌝ }
 {

@@ -19,15 +19,15 @@ use Rattle.rules.proofs.Characters.{either}
 
 -- ---- one row after the other
 module _ (right : ℕ → Bool) where
-  pub next-row : (n from : ℕ) → right from ≡ true → firstBad right (suc n) from ≡ firstBad right n (from + 1)
+  next-row : (n from : ℕ) → right from ≡ true → firstBad right (suc n) from ≡ firstBad right n (from + 1)
   unfolding firstBad
   next-row n from met = rw met
 
-  pub bad-row : (n from : ℕ) → right from ≡ false → firstBad right (suc n) from ≡ some from
+  bad-row : (n from : ℕ) → right from ≡ false → firstBad right (suc n) from ≡ some from
   unfolding firstBad
   bad-row n from missed = rw missed
 
-  pub no-row : (from : ℕ) → firstBad right 0 from ≡ none
+  no-row : (from : ℕ) → firstBad right 0 from ≡ none
   unfolding firstBad
   no-row from = refl
 
@@ -76,9 +76,6 @@ no-place : (number : ℕ) (place : Option ℕ) (rest : Option Refusal) → at nu
 no-place number none rest e = (refl, e)
 no-place number (some place) rest e = let z : _≡_ {A = ℕ} 0 1 = cc in absurd (omega arith)
 
-both : (a b : Bool) → (a && b) ≡ true → (a ≡ true) × (b ≡ true)
-both a b = and-eq-true-iff a b .0
-
 -- a test that is asked only where another holds
 only-where : (a b : Bool) → (not a || b) ≡ true → a ≡ true → b ≡ true
 only-where true b e met = e
@@ -95,17 +92,17 @@ pub record TokenRight (t : Tables) (i : ℕ) : Type 0 where
 module _ (t : Tables) (i : ℕ) (e : wordRight t i ≡ true) where
   parts : (not (eqb (lengthAt (t .tokens) i) 0) ≡ true) × (isUtf8 (part (t .text) (startAt (t .tokens) i) (lengthAt (t .tokens) i)) ≡ true)
   unfolding wordRight
-  parts = both (not (eqb (lengthAt (t .tokens) i) 0)) (isUtf8 (part (t .text) (startAt (t .tokens) i) (lengthAt (t .tokens) i))) e
+  parts = and-eq-true-iff (not (eqb (lengthAt (t .tokens) i) 0)) (isUtf8 (part (t .text) (startAt (t .tokens) i) (lengthAt (t .tokens) i))) .0 e
 
   filled : 1 ≤ lengthAt (t .tokens) i
   filled = let some = eqb-false (lengthAt (t .tokens) i) 0 (not-true (eqb (lengthAt (t .tokens) i) 0) (parts .0)) in omega arith
 
-pub token-right : (t : Tables) (i : ℕ) → tokenRight t i ≡ true → TokenRight t i
+token-right : (t : Tables) (i : ℕ) → tokenRight t i ≡ true → TokenRight t i
 unfolding tokenRight
 token-right t i e =
-    let kind = both _ _ e in
-    let inside = both _ _ (kind .1) in
-    let shaped = both _ _ (inside .1) in
+    let kind = and-eq-true-iff _ _ .0 e in
+    let inside = and-eq-true-iff _ _ .0 (kind .1) in
+    let shaped = and-eq-true-iff _ _ .0 (inside .1) in
     let word : kindAt (t .tokens) i ≡ Token.Word → wordRight t i ≡ true = λ is. only-where _ _ (shaped .1) (eq-eqb _ _ is) in
     record {
       kind = ltb-true _ _ (kind .0);
@@ -122,7 +119,7 @@ pub record WholeRows (width most : ℕ) (table : List ℕ) : Type 0 where
 
 whole-rows : (width most : ℕ) (table : List ℕ) → wholeRows width most table ≡ true → WholeRows width most table
 whole-rows width most table e =
-    let tests = both (eqb (length table % width) 0) (leb (length table / width) most) e in
+    let tests = and-eq-true-iff (eqb (length table % width) 0) (leb (length table / width) most) .0 e in
     record { whole = eqb-true (length table % width) 0 (tests .0); few = leb-true (length table / width) most (tests .1) }
 
 pub record WithinLimits (t : Tables) : Type 0 where
@@ -134,9 +131,9 @@ pub record WithinLimits (t : Tables) : Type 0 where
 within-limits : (t : Tables) → withinLimits t ≡ true → WithinLimits t
 unfolding withinLimits
 within-limits t e =
-    let text = both (leb (length (t .text)) Limits.text) _ e in
-    let tokens = both (wholeRows Limits.tokenWidth Limits.tokens (t .tokens)) _ (text .1) in
-    let others = both (wholeRows Limits.shapeWidth Limits.shapes (t .shapes)) (wholeRows Limits.stateWidth Limits.states (t .states)) (tokens .1) in
+    let text = and-eq-true-iff (leb (length (t .text)) Limits.text) _ .0 e in
+    let tokens = and-eq-true-iff (wholeRows Limits.tokenWidth Limits.tokens (t .tokens)) _ .0 (text .1) in
+    let others = and-eq-true-iff (wholeRows Limits.shapeWidth Limits.shapes (t .shapes)) (wholeRows Limits.stateWidth Limits.states (t .states)) .0 (tokens .1) in
     record {
       text = leb-true _ _ (text .0);
       tokens = whole-rows _ _ _ (tokens .0);
