@@ -168,7 +168,7 @@ module _ {t : Tables} {rule f : Rule} {rest : List Rule} {gain lift : ℕ} {scop
   leaves k e = rw e at (k .gone (w .ready))
 
   -- what is left of the rule when the callee went
-  steps-on : {Q : Parser → Type 0} {z : Parser} → Call t f lift Q u v r x → r ≡ Went z → (d : ℕ) → nodes ≤ s .builder .depth + d
+  pub steps-on : {Q : Parser → Type 0} {z : Parser} → Call t f lift Q u v r x → r ≡ Went z → (d : ℕ) → nodes ≤ s .builder .depth + d
       → rule (length (m .tree)) d (posOf s m) ≡ line rest (length (m .tree)) d (posOf z x)
   unfolding line
   steps-on {z} k e d h =
