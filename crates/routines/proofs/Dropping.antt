@@ -1,7 +1,7 @@
 -- A token is dropped: its row stands behind those that were there, and nothing of the token is left to read. Assumes nothing.
 use mathlib.Core.Path.{_≡_, refl}
 use mathlib.Core.List.{List}
-use Prim.Native.Nat.{ℕ, _+_, _<_}
+use Prim.Native.Nat.{ℕ, _<_}
 use native.Mathlib.Omega.{arith}
 use lib.ListN.{length, length-append, length-take, length-drop}
 use Rattle.rules.specs.Limits.{droppedWidth}
@@ -20,8 +20,8 @@ use Rattle.routines.proofs.Outside.{beside}
 use Rattle.routines.proofs.Walk.{Call}
 
 -- there is room for its row
-pub droppable : {t : Tables} {p : Parser} {m : Buffers} → Ready t p m → p .lexer .token < tokenCount (t .tokens) → RowFree p (m .dropped)
-droppable ready there =
+pub row-free : {t : Tables} {p : Parser} {m : Buffers} → Ready t p m → p .lexer .token < tokenCount (t .tokens) → RowFree p (m .dropped)
+row-free ready there =
     let s = ready .steady in
     let few = s .good .few in
     let light = s .light in
@@ -32,7 +32,7 @@ droppable ready there =
 module _ {t : Tables} {reason : ℕ} {p q : Parser} {tree notes after : List ℕ} (done : Dropped reason p notes q after) (ready : Ready t p (beside notes tree)) (there : p .lexer .token < tokenCount (t .tokens)) where
   dropped-is : (n : ℕ) → dropNext (flat n) (sourceOf t) reason (posOf p (beside notes tree)) ≡ went (posOf q (beside after tree))
   unfolding dropNext
-  dropped-is n = rw (done .is, one-more droppedWidth (p .dropped) notes after _ refl (droppable ready there .room) (done .row))
+  dropped-is n = rw (done .is, one-more droppedWidth (p .dropped) notes after _ refl (row-free ready there .room) (done .row))
 
   dropped-left : Left t 1 p (beside notes tree) (dropping p) (beside after tree)
   dropped-left =
@@ -40,7 +40,7 @@ module _ {t : Tables} {reason : ℕ} {p q : Parser} {tree notes after : List ℕ
       let less = left-eaten (s .fine) there in
       let few = s .dropped in
       let light = s .light in
-      let room = droppable ready there .room in
+      let room = row-free ready there .room in
       let long : length after ≡ length notes = rw (done .row) (simp (length-append, length-take, length-drop) (omega arith)) in
       record {
         passed = record {

@@ -1,9 +1,8 @@
 -- `bodies::delimiter` meets its contract: its tests are the rule's, and each arm is another routine or nothing. Assumes nothing.
-use mathlib.Core.Path.{_≡_, ap, _∙_}
+use mathlib.Core.Path.{_∙_}
 use borrow.Author.Needs.{needs}
 use borrow.Author.Tests.{eq-eqb, ne-eqb}
 use Rattle.rules.specs.Routines.{delimiter}
-use Rattle.lexer.specs.Reading.{peekedOf}
 use Rattle.lexer.proofs.Laws.{peeked}
 use Rattle.routines.proofs.Leaves.{seen-less}
 use Rattle.routines.proofs.Outside.{ran-seeing}

@@ -1,5 +1,5 @@
 -- `skipped::drop_next` meets its contract: the row is what `drop_token` wrote. Assumes nothing.
-use mathlib.Core.Path.{_≡_, ap}
+use mathlib.Core.Path.{ap}
 use native.Mathlib.Omega.{arith}
 use borrow.Author.Needs.{needs}
 use Rattle.rules.specs.Cursor.{Cursor}

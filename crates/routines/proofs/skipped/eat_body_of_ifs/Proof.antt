@@ -5,7 +5,7 @@ use native.Mathlib.Omega.{arith}
 use Rattle.rules.specs.Cursor.{left}
 use Rattle.lexer.specs.Reading.{cursorOf}
 use Rattle.lexer.proofs.Laws.{peeked, ended}
-use Rattle.routines.proofs.Dropping.{droppable}
+use Rattle.routines.proofs.Dropping.{row-free}
 use Rattle.routines.proofs.Outside.{known-somehow}
 use Rattle.routines.proofs.Skipping.{Skipping, skipping-begins, skipping-ready, skipping-long, skipping-few, skipping-there, skipping-in, skipping-goes-on, skipping-less, skipping-stops, skipping-ends, skipping-closes}
 use Rattle.routines.proofs.skipped.eat_body_of_ifs.Statement.{statement}
@@ -50,7 +50,7 @@ returns-2 c = skipping-ends _ _ _ _ (c .before .before .before .before .before .
 drop-next-requires : tie.Need-drop-next-requires Inv-loop μ-loop
 drop-next-requires c κs =
     let k = skipping-ready _ _ _ _ (c .before .before .before .before .before .before .loop .inv) (c .before .before .before .before .before .before .before .before .before .before .pre) in
-    droppable (k .ready) (rw (k .seen) (peeked _ _ (c .before .before .before .peek .ensures) (c .before .enum-told2 .given .1) .there))
+    row-free (k .ready) (rw (k .seen) (peeked _ _ (c .before .before .before .peek .ensures) (c .before .enum-told2 .given .1) .there))
 
 same-length-3 : tie.Need-same-length-3 Inv-loop μ-loop
 same-length-3 c = skipping-long _ _ _ _ (c .before .before .before .before .before .before .before .before .before .loop .inv) (c .before .before .before .before .before .before .before .before .before .before .before .before .before .pre)

@@ -1,5 +1,5 @@
 -- `skipped::more_body` meets its contract: by what `peek` told. Assumes nothing.
-use mathlib.Core.Path.{sym, _∙_}
+use mathlib.Core.Path.{sym}
 use borrow.Author.Needs.{needs}
 use borrow.Author.Tests.{ne-eqb}
 use Rattle.routines.specs.Contract.{inBody}

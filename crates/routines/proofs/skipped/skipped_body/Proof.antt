@@ -1,7 +1,7 @@
 -- `skipped::skipped_body` meets its contract: by the walk, in which the opener's row is written into the other buffer. Assumes nothing.
 use mathlib.Core.Path.{_≡_, refl, _∙_}
 use mathlib.Core.List.{List, [], _∷_}
-use Prim.Native.Nat.{ℕ, _<_}
+use Prim.Native.Nat.{ℕ}
 use lib.ListN.{drop}
 use borrow.Author.Needs.{needs}
 use Rattle.rules.specs.Checks.{Tables, sourceOf}
@@ -10,7 +10,7 @@ use Rattle.rules.specs.Position.{steps}
 use Rattle.rules.specs.Routines as spec
 use Rattle.routines.specs.Stands.{Buffers}
 use Rattle.routines.specs.declared.state.Parser.{Parser}
-use Rattle.routines.proofs.Dropping.{droppable, drops}
+use Rattle.routines.proofs.Dropping.{row-free, drops}
 use Rattle.routines.proofs.Outside.{Came, beside, node-around, begins-there}
 use Rattle.routines.proofs.Skipping.{skipping}
 use Rattle.routines.proofs.Walk.{Rule, line, begins, enters, passes, stops, ends, ran, opens, closes, ran-by}
@@ -46,7 +46,7 @@ returns c = ran-by (λ t seen ready. stops (entry (c .before .before .before .be
 drop-next-requires : tie.Need-drop-next-requires
 drop-next-requires c κs =
     let k = c .before .before .before .before .before .before .before .before .before .before .before .pre .1 in
-    droppable (after-r (c .before .before) (k .t) (k .seen) (k .ready) .ready) (rw (begins-there (k .ready) (c .before .before .before .before .before .before .start-node .ensures (c .before .before .before .before .before .before .before .before .before .before .before .args .dropped .now)) (c .before .before .r .given .1), k .seen) (c .before .before .before .before .before .before .before .before .before .before .before .pre .0))
+    row-free (after-r (c .before .before) (k .t) (k .seen) (k .ready) .ready) (rw (begins-there (k .ready) (c .before .before .before .before .before .before .start-node .ensures (c .before .before .before .before .before .before .before .before .before .before .before .args .dropped .now)) (c .before .before .r .given .1), k .seen) (c .before .before .before .before .before .before .before .before .before .before .before .pre .0))
 
 eat-body-of-ifs-requires : tie.Need-eat-body-of-ifs-requires
 eat-body-of-ifs-requires c κs = let k = c .before .before .before .before .before .before .before .before .before .before .before .before .before .before .before .before .pre .1 in record { t = k .t; seen = k .seen; ready = after-drop-next (c .before .before .before .before) (k .t) (k .seen) (k .ready) .ready }
