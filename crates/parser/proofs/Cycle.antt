@@ -1,7 +1,7 @@
 -- The walk in the cycle: calls of members at the caller's level and below it, and steps that change the list alone. Assumes nothing.
-use mathlib.Core.Path.{_≡_, refl, sym, ap, _∙_}
+use mathlib.Core.Path.{_≡_, refl, ap, _∙_}
 use mathlib.Core.List.{List, [], _∷_, _++_}
-use Prim.Native.Nat.{ℕ, zero, suc, _+_, _≤_, _<_}
+use Prim.Native.Nat.{ℕ, zero, suc, _+_, _≤_}
 use native.Mathlib.Omega.{arith}
 use lib.ListN.{length}
 use Rattle.rules.specs.Limits.{nodes}
@@ -10,11 +10,12 @@ use Rattle.rules.specs.Checks.{Tables}
 use Rattle.syntax.specs.declared.parse_scope.ParseScope.{ParseScope}
 use Rattle.routines.specs.Stands.{Buffers, Here, posOf, outOf}
 use Rattle.routines.specs.Change.{relisted, unheld}
-use Rattle.routines.specs.Contract.{MarkOk, Ready, Passed, Left, Runs}
+use Rattle.routines.specs.Contract.{MarkOk, Ready, Left, Ended, Runs}
 use Rattle.routines.specs.declared.state.ListState.{ListState}
 use Rattle.routines.specs.declared.state.Parser.{Parser}
 use Rattle.routines.specs.declared.state.Step.{Step}
-use Rattle.routines.proofs.Walk.{Rule, line, Walk, Call, stays-home}
+use Rattle.routines.specs.declared.state.Step.the-variants.{Went}
+use Rattle.routines.proofs.Walk.{Rule, line, Walk, Call, stays-home, leaves, passed-then, weaker}
 
 -- ---- calls
 
@@ -46,6 +47,42 @@ pub unnested : (inner rest : List Rule) (n d : ℕ) (q : Here) → line (line in
 unfolding line
 unnested [] rest n d q = refl
 unnested (f ∷ inner) rest n d q = bind-bind (f n d q) (line inner n d) (line rest n d) ∙ same-after (f n d q) _ _ (unnested inner rest n d)
+
+-- ---- a node is ended before the last step
+
+-- what is left once the callee went
+called : {t : Tables} {rule f : Rule} {rest : List Rule} {gain lift : ℕ} {scope : ParseScope} {s : Parser} {m : Buffers} {u : Parser} {v : Buffers} {r : Step} {x : Buffers} {Q : Parser → Type 0} {z : Parser}
+    → Walk t rule (f ∷ rest) gain lift scope s m u v → Call t f lift Q u v r x → r ≡ Went z → (d : ℕ) → nodes ≤ s .builder .depth + d
+    → rule (length (m .tree)) d (posOf s m) ≡ line rest (length (m .tree)) d (posOf z x)
+unfolding line
+called {f = f} {m = m} {u} {v} {x = x} {z = z} w k e d h =
+    let depth = w .depth in
+    let told = rw (w .passed .tree-long) at (k .is (w .ready) d (omega arith)) in
+    let is : f (length (m .tree)) d (posOf u v) ≡ went (posOf z x) = told ∙ ap (λ (y : Step). outOf y x) e in
+    w .is d h ∙ rw is
+
+-- the callee went, and ended the node that the routine opened: it is in its own again
+pub leaves-node : {t : Tables} {rule f : Rule} {rest : List Rule} {gain : ℕ} {scope : ParseScope} {s : Parser} {m : Buffers} {u : Parser} {v : Buffers} {r : Step} {x : Buffers} {z : Parser}
+    → Ready t s m → Walk t rule (f ∷ rest) gain 1 scope s m u v → Call t f 1 (λ q. Ended t (s .builder .first) (s .builder .node) u v q x) u v r x → r ≡ Went z
+    → Walk t rule rest gain 0 scope s m z x
+leaves-node {gain = gain} ready w k e =
+    let ended = leaves w k e in
+    let passed = passed-then (w .passed) (ended .passed) in
+    let depth = w .depth in
+    let shallower = ended .depth in
+    let first = ended .first-is in
+    let node = ended .node-is in
+    let within = ready .within in
+    let rows = passed .rows in
+    record {
+      is = called w k e;
+      passed = weaker gain (omega arith) passed;
+      ready = record { steady = ended .steady; within = record { depth = omega arith; first = omega arith; node = omega arith } };
+      depth = omega arith;
+      few = omega arith;
+      home = (first, node);
+      scope-is = ap (λ l. l .scope) (ended .list) ∙ w .scope-is;
+    }
 
 -- ---- steps that call nothing
 

@@ -1,52 +1,26 @@
+-- `clauses::start_attach_at` meets its contract: the rule goes by cases on the mark too. Assumes nothing.
 use borrow.Author.Needs.{needs}
 use Rattle.parser.proofs.clauses.start_attach_at.Statement.{statement}
 use Rattle.parser.proofs.clauses.start_attach_at.Tie as tie
-use Rattle.parser.proofs.clauses.start_attach_at.Reads as reads
-use Rattle.parser.proofs.clauses.start_attach_at.Lts as lts
-use Rattle.routines.proofs.state.Parser.start_node.Reads as start-node-reads
-use Rattle.routines.proofs.state.Parser.wrap.Reads as wrap-reads
 
--- src/clauses.rt:103:39
-enum-told : tie.Need-enum-told
-enum-told c = search needs
-
--- src/clauses.rt:103:26
-start-node-requires : tie.Need-start-node-requires
-start-node-requires c κs = search needs
-
--- src/clauses.rt:104:18
-enum-known-at : tie.Need-enum-known-at
-enum-known-at c = search needs
-
--- src/clauses.rt:104:33
 wrap-requires : tie.Need-wrap-requires
-wrap-requires c κs = ?
+wrap-requires c κs = (c .before .before .before .before .before .pre .0, c .before .before .before .before .before .pre .1, rw (c .before .before .at .given .1) at (c .before .before .before .before .before .pre .2))
 
--- src/clauses.rt:98:1
-same-length : tie.Need-same-length
-same-length c = search needs
-
--- src/clauses.rt:98:1
 returns : tie.Need-returns
-returns c = ?
+returns c = λ notes. rw (c .before .before .before .before .enum-told .given .1) (c .before .before .start-node .ensures notes)
 
--- src/clauses.rt:98:1
-same-length-2 : tie.Need-same-length-2
-same-length-2 c = search needs
-
--- src/clauses.rt:98:1
 returns-2 : tie.Need-returns-2
-returns-2 c = ?
+returns-2 c = λ notes. rw (c .before .before .before .before .before .at .given .1) (c .before .before .wrap .ensures notes)
 
 pub start-attach-at-spec : {M : Type 1} → statement M
 start-attach-at-spec =
     tie.close
     (tie.spec
-    enum-told
-    start-node-requires
-    enum-known-at
+    (λ c. search needs)
+    (λ c κs. search needs)
+    (λ c. search needs)
     wrap-requires
-    same-length
+    (λ c. search needs)
     returns
-    same-length-2
+    (λ c. search needs)
     returns-2)

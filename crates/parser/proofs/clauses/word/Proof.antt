@@ -1,39 +1,25 @@
+-- `clauses::word` meets its contract: either routine's promise holds for all tables that agree with more than it sees. Assumes nothing.
 use borrow.Author.Needs.{needs}
+use Rattle.routines.proofs.Leaves.{seen-less}
+use Rattle.routines.proofs.Outside.{ran-seeing}
+use Rattle.routines.proofs.Walk.{ran-as}
 use Rattle.parser.proofs.clauses.word.Statement.{statement}
 use Rattle.parser.proofs.clauses.word.Tie as tie
-use Rattle.parser.proofs.clauses.word.Reads as reads
-use Rattle.parser.proofs.clauses.word.Lts as lts
-use Rattle.lexer.proofs.cursor.Lexer.peek_text.Reads as peek-text-reads
-use Rattle.routines.proofs.text.Reads as text-reads
-use Rattle.routines.proofs.single_char.Reads as single-char-reads
 
--- src/clauses.rt:62:45
 peek-text-requires : tie.Need-peek-text-requires
-peek-text-requires c κs = ?
+peek-text-requires c κs = let s = c .before .before .before .before .before .pre .2 in (c .before .before .before .before .before .pre .0, rw (s .seen .0, s .seen .1) at (s .ready .steady .fine))
 
--- src/clauses.rt:62:9
 single-char-requires : tie.Need-single-char-requires
-single-char-requires c κs = ?
+single-char-requires c κs = (c .before .before .before .before .before .before .pre .0, c .before .before .before .before .before .before .pre .1, seen-less (λ t seen. (seen .1, rw (seen .0) (c .peek-text .ensures))) (c .before .before .before .before .before .before .pre .2))
 
--- src/clauses.rt:62:9
-same-length : tie.Need-same-length
-same-length c = search needs
-
--- src/clauses.rt:62:9
 returns : tie.Need-returns
-returns c = ?
+returns c = λ notes. ran-as (ran-seeing (λ t seen. (seen .1, rw (seen .0) (c .before .before .before .peek-text .ensures))) (c .before .before .single-char .ensures notes)) (λ t seen n. rw (c .before .before .before .before .before .if1 .taken))
 
--- src/clauses.rt:64:5
 text-requires : tie.Need-text-requires
-text-requires c κs = search needs
+text-requires c κs = (c .before .before .before .before .before .pre .0, seen-less (λ t seen. seen .1) (c .before .before .before .before .before .pre .2))
 
--- src/clauses.rt:57:1
-same-length-2 : tie.Need-same-length-2
-same-length-2 c = search needs
-
--- src/clauses.rt:57:1
 returns-2 : tie.Need-returns-2
-returns-2 c = ?
+returns-2 c = λ notes. ran-as (ran-seeing (λ t seen. seen .1) (c .before .before .text .ensures notes)) (λ t seen n. rw (c .before .before .before .before .if1 .left))
 
 pub word-spec : {M : Type 1} → statement M
 word-spec =
@@ -41,8 +27,8 @@ word-spec =
     (tie.spec
     peek-text-requires
     single-char-requires
-    same-length
+    (λ c. search needs)
     returns
     text-requires
-    same-length-2
+    (λ c. search needs)
     returns-2)
