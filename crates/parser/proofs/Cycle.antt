@@ -1,0 +1,134 @@
+-- The walk in the cycle: calls of members at the caller's level and below it, and steps that change the list alone. Assumes nothing.
+use mathlib.Core.Path.{_≡_, refl, ap, _∙_}
+use mathlib.Core.List.{List, [], _∷_, _++_}
+use Prim.Native.Nat.{ℕ, zero, suc, _+_, _≤_}
+use native.Mathlib.Omega.{arith}
+use lib.ListN.{length}
+use Rattle.rules.specs.Limits.{nodes}
+use Rattle.rules.specs.Outcome.{Out, went, refused, bind}
+use Rattle.rules.specs.Checks.{Tables}
+use Rattle.syntax.specs.declared.parse_scope.ParseScope.{ParseScope}
+use Rattle.routines.specs.Stands.{Buffers, Here, posOf, outOf}
+use Rattle.routines.specs.Change.{relisted, unheld}
+use Rattle.routines.specs.Contract.{MarkOk, Ready, Left, Ended, Runs}
+use Rattle.routines.specs.declared.state.ListState.{ListState}
+use Rattle.routines.specs.declared.state.Parser.{Parser}
+use Rattle.routines.specs.declared.state.Step.{Step}
+use Rattle.routines.specs.declared.state.Step.the-variants.{Went}
+use Rattle.routines.proofs.Walk.{Rule, line, Walk, Call, stays-home, leaves, passed-then, weaker}
+
+-- ---- calls
+
+-- a member at the caller's level
+pub runs : {t : Tables} {gain lift : ℕ} {f : Rule} {u : Parser} {v : Buffers} {r : Step} {x : Buffers} → Runs t gain (λ n d. f n d (posOf u v)) u v r x → Call t f lift (λ q. Left t gain u v q x) u v r x
+runs k = record { is = λ ready d h. k .is d (omega arith); gone = λ ready. k .gone }
+
+-- a member that reads items in a node that the caller opened: a level less
+pub below : {t : Tables} {gain lift : ℕ} {f : Rule} {u : Parser} {v : Buffers} {r : Step} {x : Buffers} → u .builder .depth ≤ nodes → Runs t gain (λ n d. f n (suc d) (posOf u v)) u v r x
+    → Call t f (suc lift) (λ q. Left t gain u v q x) u v r x
+below {lift = lift} {f} {u} {v} {r} {x} deep k = record { is = λ ready d h. one-less d h; gone = λ ready. k .gone }
+  where
+    one-less : (d : ℕ) → nodes + suc lift ≤ u .builder .depth + d → f (length (v .tree)) d (posOf u v) ≡ outOf r x
+    one-less zero h = absurd (omega arith)
+    one-less (suc e) h = k .is e (omega arith)
+
+-- ---- steps inside a step
+
+bind-bind : (o : Out Here) (f g : Here → Out Here) → bind (bind o f) g ≡ bind o (λ q. bind (f q) g)
+bind-bind (went q) f g = refl
+bind-bind (refused number place) f g = refl
+
+same-after : (o : Out Here) (f g : Here → Out Here) → ((q : Here) → f q ≡ g q) → bind o f ≡ bind o g
+same-after (went q) f g h = h q
+same-after (refused number place) f g h = refl
+
+-- a rule that is steps itself stands for them
+pub unnested : (inner rest : List Rule) (n d : ℕ) (q : Here) → line (line inner ∷ rest) n d q ≡ line (inner ++ rest) n d q
+unfolding line
+unnested [] rest n d q = refl
+unnested (f ∷ inner) rest n d q = bind-bind (f n d q) (line inner n d) (line rest n d) ∙ same-after (f n d q) _ _ (unnested inner rest n d)
+
+-- ---- a node is ended before the last step
+
+-- what is left once the callee went
+called : {t : Tables} {rule f : Rule} {rest : List Rule} {gain lift : ℕ} {scope : ParseScope} {s : Parser} {m : Buffers} {u : Parser} {v : Buffers} {r : Step} {x : Buffers} {Q : Parser → Type 0} {z : Parser}
+    → Walk t rule (f ∷ rest) gain lift scope s m u v → Call t f lift Q u v r x → r ≡ Went z → (d : ℕ) → nodes ≤ s .builder .depth + d
+    → rule (length (m .tree)) d (posOf s m) ≡ line rest (length (m .tree)) d (posOf z x)
+unfolding line
+called {f = f} {m = m} {u} {v} {x = x} {z = z} w k e d h =
+    let depth = w .depth in
+    let told = rw (w .passed .tree-long) at (k .is (w .ready) d (omega arith)) in
+    let is : f (length (m .tree)) d (posOf u v) ≡ went (posOf z x) = told ∙ ap (λ (y : Step). outOf y x) e in
+    w .is d h ∙ rw is
+
+-- the callee went, and ended the node that the routine opened: it is in its own again
+pub leaves-node : {t : Tables} {rule f : Rule} {rest : List Rule} {gain : ℕ} {scope : ParseScope} {s : Parser} {m : Buffers} {u : Parser} {v : Buffers} {r : Step} {x : Buffers} {z : Parser}
+    → Ready t s m → Walk t rule (f ∷ rest) gain 1 scope s m u v → Call t f 1 (λ q. Ended t (s .builder .first) (s .builder .node) u v q x) u v r x → r ≡ Went z
+    → Walk t rule rest gain 0 scope s m z x
+leaves-node {gain = gain} ready w k e =
+    let ended = leaves w k e in
+    let passed = passed-then (w .passed) (ended .passed) in
+    let depth = w .depth in
+    let shallower = ended .depth in
+    let first = ended .first-is in
+    let node = ended .node-is in
+    let within = ready .within in
+    let rows = passed .rows in
+    record {
+      is = called w k e;
+      passed = weaker gain (omega arith) passed;
+      ready = record { steady = ended .steady; within = record { depth = omega arith; first = omega arith; node = omega arith } };
+      depth = omega arith;
+      few = omega arith;
+      home = (first, node);
+      scope-is = ap (λ l. l .scope) (ended .list) ∙ w .scope-is;
+    }
+
+-- ---- steps that call nothing
+
+module _ {t : Tables} {rule f : Rule} {rest : List Rule} {gain lift : ℕ} {scope : ParseScope} {s : Parser} {m : Buffers} {u : Parser} {v : Buffers} (w : Walk t rule (f ∷ rest) gain lift scope s m u v) where
+  -- what is left once such a step is made
+  stepped : (z : Parser) → ((n d : ℕ) → f n d (posOf u v) ≡ went (posOf z v)) → (d : ℕ) → nodes ≤ s .builder .depth + d → rule (length (m .tree)) d (posOf s m) ≡ line rest (length (m .tree)) d (posOf z v)
+  unfolding line
+  stepped z is d h = w .is d h ∙ rw (is (length (m .tree)) d)
+
+  -- the code took another list
+  pub relists : {z : Parser} (l : ListState) → z ≡ relisted u l → MarkOk (l .start) (u .builder) → MarkOk (l .last) (u .builder) → ((n d : ℕ) → f n d (posOf u v) ≡ went (posOf (relisted u l) v))
+      → Walk t rule rest gain lift (l .scope) s m z v
+  relists l e first last is =
+      let p = w .passed in
+      let y = w .ready .steady in
+      rw e
+      (record {
+        is = stepped (relisted u l) is;
+        passed = record { tree = p .tree; notes = p .notes; tree-long = p .tree-long; notes-long = p .notes-long; rows = p .rows; dropped = p .dropped; token = p .token; read = p .read; light = p .light };
+        ready = record {
+          steady = record { good = y .good; fine = y .fine; token = y .token; fits = y .fits; start = first; last = last; dropped = y .dropped; notes = y .notes; light = y .light };
+          within = w .ready .within;
+        };
+        depth = w .depth;
+        few = w .few;
+        home = stays-home lift s u (relisted u l) refl refl (w .home);
+        scope-is = refl;
+      })
+
+  -- nothing is held any more
+  pub unholds : {z : Parser} → z ≡ unheld u → ((n d : ℕ) → f n d (posOf u v) ≡ went (posOf (unheld u) v)) → Walk t rule rest gain lift scope s m z v
+  unholds e is =
+      let p = w .passed in
+      let y = w .ready .steady in
+      let lighter = p .light in
+      let light = y .light in
+      rw e
+      (record {
+        is = stepped (unheld u) is;
+        passed = record { tree = p .tree; notes = p .notes; tree-long = p .tree-long; notes-long = p .notes-long; rows = p .rows; dropped = p .dropped; token = p .token; read = p .read; light = omega arith };
+        ready = record {
+          steady = record { good = y .good; fine = y .fine; token = y .token; fits = y .fits; start = y .start; last = y .last; dropped = y .dropped; notes = y .notes; light = omega arith };
+          within = w .ready .within;
+        };
+        depth = w .depth;
+        few = w .few;
+        home = stays-home lift s u (unheld u) refl refl (w .home);
+        scope-is = w .scope-is;
+      })

@@ -1,0 +1,3 @@
+-- What the proofs of several functions use.
+pub mod Cycle
+pub mod Marks

@@ -1,0 +1,2 @@
+-- What the contracts of the cycle of calls say.
+pub mod Member
