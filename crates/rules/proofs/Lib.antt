@@ -3,6 +3,7 @@ pub mod Alike
 pub mod Characters
 pub mod Flat
 pub mod OnTree
+pub mod Questions
 pub mod Related
 pub mod Render
 pub mod Room
