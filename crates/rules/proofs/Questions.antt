@@ -1,17 +1,19 @@
 -- The laws by which callers use the questions' definitions: what each walk over the rows comes to at the next row, which is its definition there,
 -- and where the rows that it finds and the texts of leaves lie. Assumes nothing.
 use Prim.Native.Nat.{ℕ, zero, suc, _+_, _-_, _≤_, _<_}
-use mathlib.Core.Bool.{Bool, true, false, cond, _&&_, and-eq-true-iff}
-use mathlib.Core.List.{List}
+use mathlib.Core.Bool.{Bool, true, false, cond, _&&_, and-false, and-eq-true-iff}
+use mathlib.Core.List.{List, [], _∷_}
 use mathlib.Core.Option.{Option, none, some}
-use mathlib.Core.Path.{_≡_, ap, _∙_}
+use mathlib.Core.Path.{_≡_, refl, ap, _∙_}
+use native.Mathlib.Numerals.{add-one}
 use native.Mathlib.Omega.{arith}
 use borrow.Author.Tests.{ltb-true, leb-true, eqb-true, lt-ltb, le-ltb, eq-eqb, ne-eqb}
 use lib.Dec.{ltb, eqb, leb}
-use lib.ListN.{length}
+use lib.ListN.{length, getD, drop, drop-of-length-le}
+use lib.Seq.{drop-cons}
 use Rattle.rules.specs.Flat.{tagStart, tagLeaf, tagFinish}
 use Rattle.rules.specs.SyntaxKind.{ItemFormula}
-use Rattle.rules.specs.Questions.{rowCount, tagAt, kindAt, startAt, lengthAt, tagged, isLeaf, leafRange, openAfter, balance, formula, descend, firstFrom, lastBefore}
+use Rattle.rules.specs.Questions.{rowCount, tagAt, kindAt, startAt, lengthAt, tagged, isLeaf, leafRange, openAfter, balance, formula, descend, firstFrom, lastBefore, same}
 use Rattle.rules.proofs.Characters.{either}
 
 never : {A : Type 0} {a : A} → none ≡ some a → ⊥
@@ -25,6 +27,7 @@ no-more rows at end = omega arith
 
 -- ---- rows and leaves
 pub tagged-there : (tag : ℕ) (tree : List ℕ) (row : ℕ) → tagged tag tree row ≡ true → row < rowCount tree
+unfolding tagged
 tagged-there tag tree row e = ltb-true row (rowCount tree) (and-eq-true-iff (ltb row (rowCount tree)) (eqb (tagAt tree row) tag) .0 e .0)
 
 module _ (text tree : List ℕ) (row : ℕ) where
@@ -43,6 +46,12 @@ module _ (text tree : List ℕ) (row : ℕ) where
   range-inside = either (isLeaf text tree row) (λ e. rw e (is-leaf e .1)) (λ e. rw e (omega arith))
 
 -- ---- the matching finish
+pub open-after-most : (tag deep : ℕ) → openAfter tag deep ≤ deep + 1
+unfolding openAfter
+open-after-most tag deep =
+    either (eqb tag tagStart) (λ starts. rw starts (omega arith))
+    (λ other. either (eqb tag tagFinish) (λ ends. rw (other, ends) (omega arith)) (λ same. rw (other, same) (omega arith)))
+
 module _ (tree : List ℕ) (rows at deep : ℕ) where
   module _ {tag : ℕ} (is : tag ≡ tagAt tree at) (there : at < rows) where
     pub balance-never : tagFinish < tag → balance tree (rows - at) at deep ≡ none
@@ -123,3 +132,22 @@ module _ (tree : List ℕ) (end : ℕ) where
   pub last-end : end ≤ 0 → lastBefore tree end ≡ none
   unfolding lastBefore
   last-end none-left = let is : end ≡ zero = omega arith in rw is
+
+-- ---- two texts
+pub same-lengths : (a b : List ℕ) → (length a ≡ length b → ⊥) → same a b ≡ false
+unfolding same
+same-lengths [] [] other = absurd (other refl)
+same-lengths [] (b ∷ rest) other = refl
+same-lengths (a ∷ rest) [] other = refl
+same-lengths (a ∷ more) (b ∷ rest) other = rw (same-lengths more rest (λ e. other (ap suc e)), and-false)
+
+module _ (a b : List ℕ) (i : ℕ) (alike : length a ≡ length b) where
+  pub same-next : i < length a → same (drop i a) (drop i b) ≡ (eqb (getD a i 0) (getD b i 0) && same (drop (i + 1) a) (drop (i + 1) b))
+  unfolding same
+  same-next more = rw (add-one, drop-cons a i 0 more, drop-cons b i 0 (omega arith))
+
+  pub same-end : length a ≤ i → same (drop i a) (drop i b) ≡ true
+  unfolding same
+  same-end end =
+      let ended : length b ≤ i = omega arith in
+      rw (drop-of-length-le a end, drop-of-length-le b ended)

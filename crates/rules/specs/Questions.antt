@@ -31,7 +31,7 @@ abbrev pub lengthAt : List ℕ → ℕ → ℕ
 lengthAt tree row = cell Limits.treeWidth tree row 3
 
 -- whether there is such a row, and it has the tag
-abbrev pub tagged : ℕ → List ℕ → ℕ → Bool
+unfoldable pub tagged : ℕ → List ℕ → ℕ → Bool
 tagged tag tree row = ltb row (rowCount tree) && eqb (tagAt tree row) tag
 
 -- ---- leaves
@@ -53,7 +53,7 @@ leafText text tree row = part text (leafRange text tree row .start) (leafRange t
 
 -- ---- a formula's node
 -- starts less finishes, once a row of this tag is passed
-abbrev pub openAfter : ℕ → ℕ → ℕ
+unfoldable pub openAfter : ℕ → ℕ → ℕ
 openAfter tag deep = cond (eqb tag tagStart) (deep + 1) (cond (eqb tag tagFinish) (deep - 1) deep)
 
 -- "the first later row where starts and finishes balance, no tag over 2 before it": among so many rows from `at` on, when `deep` nodes are open there
@@ -131,7 +131,7 @@ abbrev pub endDisplay : Delimiter
 endDisplay = record { kind = TokenEndMath; bytes = 92 ∷ 93 ∷ [] }
 
 -- whether two texts are the same
-abbrev pub same : List ℕ → List ℕ → Bool
+unfoldable pub same : List ℕ → List ℕ → Bool
 same [] [] = true
 same [] (b ∷ rest) = false
 same (a ∷ rest) [] = false
@@ -400,5 +400,5 @@ asked e = (
 )
 
 answers : map asked examples ≡ map (λ (e : Example). (e .formula, e .leaf)) examples
-unfolding layout isLeaf leafRange leafText balance formula firstFrom lastBefore firstToken lastToken isDelimiter between matched isDisplay isInline isValid
+unfolding layout tagged isLeaf leafRange leafText openAfter balance formula firstFrom lastBefore firstToken lastToken same isDelimiter between matched isDisplay isInline isValid
 answers = refl
