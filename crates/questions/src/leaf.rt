@@ -1,6 +1,7 @@
 // Leaves: whether a row is one inside the text, and its text as that part of the caller's.
 ghost use mathlib.Core.Path.{_≡_};
-ghost use Rattle.rules.specs.Questions.{isLeaf, leafRange};
+ghost use Prim.Native.Nat.{_<_, _^_};
+ghost use Rattle.rules.specs.Questions.{rowCount, rangeAt, isLeaf, leafRange};
 ghost use Rattle.questions.specs.Stands.{rangeOf};
 ghost use Rattle.questions.specs.Contract.{LeafText};
 use crate::rows::Column;
@@ -14,14 +15,24 @@ pub struct LeafRange {
     pub size: usize,
 }
 
+// The range that a row names.
+fn range_at(tree: &[u32], row: usize) -> LeafRange
+    requires { ⌜ row < rowCount (now tree) ⌝ }
+    ensures { λ r. ⌜ (rangeOf r ≡ rangeAt (now (tree .entry)) row) × (r .start < 2 ^ 32) × (r .size < 2 ^ 32) ⌝ }
+{
+    LeafRange {
+        start: cell(tree, row, Column::START) as usize,
+        size: cell(tree, row, Column::LENGTH) as usize,
+    }
+}
+
 // Whether the row is a leaf inside the text.
 pub fn is_leaf(text: &[u8], tree: &[u32], row: usize) -> bool
     ensures { λ r. ⌜ r ≡ isLeaf (now (text .entry)) (now (tree .entry)) row ⌝ }
 {
     if tagged(Tag::LEAF, tree, row) {
-        let start = cell(tree, row, Column::START) as usize;
-        let size = cell(tree, row, Column::LENGTH) as usize;
-        return start + size <= text.len();
+        let range = range_at(tree, row);
+        return range.start + range.size <= text.len();
     }
     false
 }
@@ -31,10 +42,7 @@ pub fn leaf_range(text: &[u8], tree: &[u32], row: usize) -> LeafRange
     ensures { λ r. ⌜ rangeOf r ≡ leafRange (now (text .entry)) (now (tree .entry)) row ⌝ }
 {
     if is_leaf(text, tree, row) {
-        return LeafRange {
-            start: cell(tree, row, Column::START) as usize,
-            size: cell(tree, row, Column::LENGTH) as usize,
-        };
+        return range_at(tree, row);
     }
     LeafRange { start: 0, size: 0 }
 }

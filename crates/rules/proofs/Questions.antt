@@ -13,7 +13,7 @@ use lib.ListN.{length, getD, drop, drop-of-length-le}
 use lib.Seq.{drop-cons}
 use Rattle.rules.specs.Flat.{tagStart, tagLeaf, tagFinish}
 use Rattle.rules.specs.SyntaxKind.{ItemFormula}
-use Rattle.rules.specs.Questions.{rowCount, tagAt, kindAt, startAt, lengthAt, tagged, isLeaf, leafRange, openAfter, balance, formula, descend, firstFrom, lastBefore, same}
+use Rattle.rules.specs.Questions.{rowCount, tagAt, kindAt, rangeAt, tagged, isLeaf, leafRange, openAfter, balance, formula, descend, firstFrom, lastBefore, same}
 use Rattle.rules.proofs.Characters.{either}
 
 never : {A : Type 0} {a : A} → none ≡ some a → ⊥
@@ -31,11 +31,11 @@ unfolding tagged
 tagged-there tag tree row e = ltb-true row (rowCount tree) (and-eq-true-iff (ltb row (rowCount tree)) (eqb (tagAt tree row) tag) .0 e .0)
 
 module _ (text tree : List ℕ) (row : ℕ) where
-  is-leaf : isLeaf text tree row ≡ true → (row < rowCount tree) × (startAt tree row + lengthAt tree row ≤ length text)
+  is-leaf : isLeaf text tree row ≡ true → (row < rowCount tree) × (rangeAt tree row .start + rangeAt tree row .size ≤ length text)
   unfolding isLeaf
   is-leaf e =
-      let h = and-eq-true-iff (tagged tagLeaf tree row) (leb (startAt tree row + lengthAt tree row) (length text)) .0 e in
-      (tagged-there tagLeaf tree row (h .0), leb-true (startAt tree row + lengthAt tree row) (length text) (h .1))
+      let h = and-eq-true-iff (tagged tagLeaf tree row) (leb (rangeAt tree row .start + rangeAt tree row .size) (length text)) .0 e in
+      (tagged-there tagLeaf tree row (h .0), leb-true (rangeAt tree row .start + rangeAt tree row .size) (length text) (h .1))
 
   pub leaf-there : isLeaf text tree row ≡ true → row < rowCount tree
   leaf-there e = is-leaf e .0

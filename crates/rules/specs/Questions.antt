@@ -24,29 +24,27 @@ tagAt tree row = cell Limits.treeWidth tree row 0
 abbrev pub kindAt : List ℕ → ℕ → ℕ
 kindAt tree row = cell Limits.treeWidth tree row 1
 
-abbrev pub startAt : List ℕ → ℕ → ℕ
-startAt tree row = cell Limits.treeWidth tree row 2
-
-abbrev pub lengthAt : List ℕ → ℕ → ℕ
-lengthAt tree row = cell Limits.treeWidth tree row 3
-
 -- whether there is such a row, and it has the tag
 unfoldable pub tagged : ℕ → List ℕ → ℕ → Bool
 tagged tag tree row = ltb row (rowCount tree) && eqb (tagAt tree row) tag
 
 -- ---- leaves
--- "Another question says whether a row is a leaf inside the text."
-unfoldable pub isLeaf : List ℕ → List ℕ → ℕ → Bool
-isLeaf text tree row = tagged tagLeaf tree row && leb (startAt tree row + lengthAt tree row) (length text)
-
 -- where a part of the text starts, and how many bytes it has
 pub record Range : Type 0 where
   pub start : ℕ
   pub size : ℕ
 
+-- the last two numbers of a row
+unfoldable pub rangeAt : List ℕ → ℕ → Range
+rangeAt tree row = record { start = cell Limits.treeWidth tree row 2; size = cell Limits.treeWidth tree row 3 }
+
+-- "Another question says whether a row is a leaf inside the text."
+unfoldable pub isLeaf : List ℕ → List ℕ → ℕ → Bool
+isLeaf text tree row = tagged tagLeaf tree row && leb (rangeAt tree row .start + rangeAt tree row .size) (length text)
+
 -- "The text of a leaf row comes back as that part of the caller's text; for a leaf outside it, another row or no row, as the empty part at the text's start."
 unfoldable pub leafRange : List ℕ → List ℕ → ℕ → Range
-leafRange text tree row = cond (isLeaf text tree row) (record { start = startAt tree row; size = lengthAt tree row }) (record { start = 0; size = 0 })
+leafRange text tree row = cond (isLeaf text tree row) (rangeAt tree row) (record { start = 0; size = 0 })
 
 unfoldable pub leafText : List ℕ → List ℕ → ℕ → List ℕ
 leafText text tree row = part text (leafRange text tree row .start) (leafRange text tree row .size)
@@ -143,13 +141,17 @@ isDelimiter text tree d none = false
 isDelimiter text tree d (some row) = isLeaf text tree row && (eqb (kindAt tree row) (d .kind) && same (leafText text tree row) (d .bytes))
 
 -- ---- the three questions
--- `is_display` asks for the first token alone
-unfoldable pub isDisplay : List ℕ → List ℕ → ℕ → Bool
-isDisplay text tree row = isDelimiter text tree dollars (firstToken tree row) || isDelimiter text tree beginDisplay (firstToken tree row)
+-- whether the first token is one of two delimiters; the last is not asked about
+unfoldable pub opens : List ℕ → List ℕ → Delimiter → Delimiter → ℕ → Bool
+opens text tree one other row = isDelimiter text tree one (firstToken tree row) || isDelimiter text tree other (firstToken tree row)
 
--- and so does `is_inline`
-unfoldable pub isInline : List ℕ → List ℕ → ℕ → Bool
-isInline text tree row = isDelimiter text tree dollar (firstToken tree row) || isDelimiter text tree beginInline (firstToken tree row)
+-- `is_display`: `$$` or `\[`
+abbrev pub isDisplay : List ℕ → List ℕ → ℕ → Bool
+isDisplay text tree row = opens text tree dollars beginDisplay row
+
+-- `is_inline`: `$` or `\(`
+abbrev pub isInline : List ℕ → List ℕ → ℕ → Bool
+isInline text tree row = opens text tree dollar beginInline row
 
 -- whether the one token is this delimiter and the other that one
 unfoldable pub between : List ℕ → List ℕ → Delimiter → Delimiter → Option ℕ → Option ℕ → Bool
@@ -400,5 +402,5 @@ asked e = (
 )
 
 answers : map asked examples ≡ map (λ (e : Example). (e .formula, e .leaf)) examples
-unfolding layout tagged isLeaf leafRange leafText openAfter balance formula firstFrom lastBefore firstToken lastToken same isDelimiter between matched isDisplay isInline isValid
+unfolding layout tagged rangeAt isLeaf leafRange leafText openAfter balance formula firstFrom lastBefore firstToken lastToken same isDelimiter opens between matched isValid
 answers = refl
