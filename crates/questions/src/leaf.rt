@@ -32,7 +32,9 @@ pub fn is_leaf(text: &[u8], tree: &[u32], row: usize) -> bool
 {
     if tagged(Tag::LEAF, tree, row) {
         let range = range_at(tree, row);
-        return range.start + range.size <= text.len();
+        let start = range.start;
+        let size = range.size;
+        return start + size <= text.len();
     }
     false
 }
@@ -52,7 +54,7 @@ pub fn leaf_text<'a>(text: &'a [u8], tree: &[u32], row: usize) -> &'a [u8]
     ensures { λ r. ⌜ LeafText (text .entry) (now (tree .entry)) row r ⌝ }
 {
     let range = leaf_range(text, tree, row);
-    let start = range.start;
-    let end = start + range.size;
-    &text[start..end]
+    let from = range.start;
+    let to = from + range.size;
+    &text[from..to]
 }

@@ -11,7 +11,7 @@ range-at-requires c κs = tagged-there _ _ _ (sym (c .before .tagged .ensures) �
 
 returns : tie.Need-returns
 unfolding isLeaf
-returns c = rw (sym (c .before .before .before .tagged .ensures) ∙ c .before .before .if1 .taken, ← c .before .range-at .ensures .0)
+returns c = rw (sym (c .before .before .tagged .ensures) ∙ c .before .if1 .taken, ← c .range-at .ensures .0)
 
 returns-2 : tie.Need-returns-2
 unfolding isLeaf

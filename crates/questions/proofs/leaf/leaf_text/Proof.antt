@@ -15,11 +15,11 @@ use Rattle.questions.proofs.leaf.leaf_text.Tie as tie
 inside : (text tree : List ℕ) (row : ℕ) {r : LeafRange} → rangeOf r ≡ leafRange text tree row → r .start + r .size ≤ length text
 inside text tree row e = omega (arith, range-inside text tree row, ap (λ (q : Range). q .start) e, ap (λ (q : Range). q .size) e)
 
-add-end : tie.Need-add-end
-add-end c = let fits = inside _ _ _ (c .before .leaf-range .ensures) in omega arith
+add-to : tie.Need-add-to
+add-to c = let fits = inside _ _ _ (c .before .leaf-range .ensures) in omega arith
 
 part-result-end : tie.Need-part-result-end
-part-result-end c = inside _ _ _ (c .before .leaf-range .ensures)
+part-result-end c = let fits = inside _ _ _ (c .before .leaf-range .ensures) in omega arith
 
 returns : tie.Need-returns
 unfolding leafText
@@ -29,4 +29,4 @@ returns c =
     record { is = rw (whole, ← c .before .before .leaf-range .ensures); place = rw (← c .before .before .leaf-range .ensures) }
 
 pub leaf-text-spec : {M : Type 1} → statement M
-leaf-text-spec = tie.close (tie.spec (λ c κs. search needs) add-end (λ c. search needs) (λ c. search needs) part-result-end returns)
+leaf-text-spec = tie.close (tie.spec (λ c κs. search needs) add-to (λ c. search needs) (λ c. search needs) part-result-end returns)
