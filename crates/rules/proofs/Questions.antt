@@ -122,12 +122,15 @@ module _ (tree : List ℕ) (to at : ℕ) where
   unfolding firstFrom
   first-end end = rw (no-more to at end)
 
+pub last-step : (tree : List ℕ) (at : ℕ) {tag : ℕ} → tag ≡ tagAt tree at → lastBefore tree (at + 1) ≡ descend tagFinish tag at (lastBefore tree at)
+unfolding lastBefore
+last-step tree at is = rw (add-one, ← is)
+
 module _ (tree : List ℕ) (end : ℕ) where
   pub last-next : {tag : ℕ} → tag ≡ tagAt tree (end - 1) → 0 < end → lastBefore tree end ≡ descend tagFinish tag (end - 1) (lastBefore tree (end - 1))
-  unfolding lastBefore
   last-next is there =
-      let more : end ≡ suc (end - 1) = omega arith in
-      ap (lastBefore tree) more ∙ rw (← is)
+      let up : end ≡ end - 1 + 1 = omega arith in
+      ap (lastBefore tree) up ∙ last-step tree (end - 1) is
 
   pub last-end : end ≤ 0 → lastBefore tree end ≡ none
   unfolding lastBefore

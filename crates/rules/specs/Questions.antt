@@ -11,7 +11,7 @@ use Rattle.rules.specs.Flat.{tagStart, tagLeaf, tagFinish, leafRow, star
 use Rattle.rules.specs.Limits
 use Rattle.rules.specs.SyntaxKind.{TokenWord, TokenDollar, TokenBeginMath, TokenEndMath, ItemText, ItemBlockComment, ItemFormula, ScopeRoot}
 use Rattle.rules.specs.Tables.{cell, part}
-use Rattle.rules.specs.Tree.{Tree, leaf, nodeOf, layout}
+use Rattle.rules.specs.Tree.{Tree, Forest, leaf, node, more, nodeOf, layout}
 
 -- ---- rows
 -- "Tree row: tag (0 start, 1 leaf, 2 finish), kind, start, length". What is left over behind the last whole row is no row
@@ -131,9 +131,9 @@ endDisplay = record { kind = TokenEndMath; bytes = 92 ∷ 93 ∷ [] }
 -- whether two texts are the same
 unfoldable pub same : List ℕ → List ℕ → Bool
 same [] [] = true
-same [] (b ∷ rest) = false
-same (a ∷ rest) [] = false
-same (a ∷ more) (b ∷ rest) = eqb a b && same more rest
+same [] (b ∷ right) = false
+same (a ∷ left) [] = false
+same (a ∷ left) (b ∷ right) = eqb a b && same left right
 
 -- whether a token is this delimiter. "If one of them is asked about and lies outside the text: no."
 unfoldable pub isDelimiter : List ℕ → List ℕ → Delimiter → Option ℕ → Bool
@@ -167,6 +167,36 @@ matched text tree first last =
 -- "`is_valid` asks only whether these two tokens match, so a lone `$` is valid, as in the source."
 unfoldable pub isValid : List ℕ → List ℕ → ℕ → Bool
 isValid text tree row = matched text tree (firstToken tree row) (lastToken tree row)
+
+-- ---- the tokens of a tree, as rowan has them
+-- a leaf's kind and the range of its text
+abbrev pub Leaf : Type 0
+Leaf = ℕ × Range
+
+unfoldable mutual
+  -- `first_token`: the first child's, if there is a child
+  pub firstLeaf : Tree → Option Leaf
+  firstLeaf (leaf kind from size) = some (kind, record { start = from; size = size })
+  firstLeaf (node kind children) = firstOf children
+
+  pub firstOf : Forest → Option Leaf
+  firstOf Forest.none = none
+  firstOf (more child rest) = firstLeaf child
+
+unfoldable mutual
+  -- `last_token`: the last child's; `before` is that of the child before these
+  pub lastLeaf : Tree → Option Leaf
+  lastLeaf (leaf kind from size) = some (kind, record { start = from; size = size })
+  lastLeaf (node kind children) = lastOf children none
+
+  pub lastOf : Forest → Option Leaf → Option Leaf
+  lastOf Forest.none before = before
+  lastOf (more child rest) before = lastOf rest (lastLeaf child)
+
+-- what a row says of its leaf
+abbrev pub leafAt : List ℕ → Option ℕ → Option Leaf
+leafAt tree none = none
+leafAt tree (some row) = cond (tagged tagLeaf tree row) (some (kindAt tree row, rangeAt tree row)) none
 
 -- ---- examples, as one table, and one theorem over it that antt computes
 pub record Example : Type 0 where
