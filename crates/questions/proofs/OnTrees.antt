@@ -1,9 +1,9 @@
--- In rows that a tree is laid out in, the walks find rowan's tokens: by induction over the tree, each child's rows are passed as one, and the first
--- and the last row that is not passed is the leaf that rowan descends to. Assumes nothing.
+-- In rows that a tree is laid out in, the questions of a formula's row have the answers that the source has of its node: by induction over the tree the walk
+-- to the finish passes each child's rows as one, and the first and the last row that is not passed are the leaves that rowan descends to. Assumes nothing.
 use Prim.Native.Nat.{ℕ, suc, _+_, _*_, _-_, _≤_, _<_}
 use mathlib.Core.List.{List, [], _∷_, _++_, append-assoc}
 use mathlib.Core.Option.{Option, none, some}
-use mathlib.Core.Path.{_≡_, refl, sym, ap, _∙_}
+use mathlib.Core.Path.{_≡_, refl, sym, ap, ap₂, _∙_}
 use borrow.Author.Tests.{lt-ltb}
 use native.Mathlib.Nat.{add-zero, add-assoc}
 use native.Mathlib.Omega.{arith}
@@ -11,7 +11,7 @@ use lib.ListN.{length, getD, drop, length-append, length-drop}
 use lib.Seq.{drop-drop, drop-append-seam, getD-drop}
 use Rattle.rules.specs.Flat.{leafRow, startRow, finishRow}
 use Rattle.rules.specs.Limits
-use Rattle.rules.specs.Questions.{rowCount, tagAt, tagged, rangeAt, openAfter, balance, formula, firstToken, lastToken, firstFrom, lastBefore, firstLeaf, firstOf, lastLeaf, lastOf, leafAt}
+use Rattle.rules.specs.Questions.{rowCount, tagAt, tagged, rangeAt, openAfter, balance, formula, firstToken, lastToken, firstFrom, lastBefore, firstLeaf, firstOf, lastLeaf, lastOf, leafAt, display, inline, matched, isDisplay, isInline, isValid}
 use Rattle.rules.proofs.Questions.{balance-on, balance-here, first-next, first-end, last-step}
 use Rattle.rules.specs.SyntaxKind.{ItemFormula}
 use Rattle.rules.specs.Tables.{cell}
@@ -57,6 +57,7 @@ unfoldable mutual
 
 mutual
   unfolding layout layouts size sizes
+
   length-layout : (t : Tree) → length (layout t) ≡ size t * Limits.treeWidth
   length-layout (leaf kind from long) = refl
   length-layout (node kind children) =
@@ -103,6 +104,7 @@ split child rest s =
 module _ (tree : List ℕ) where
   mutual
     unfolding layout layouts size sizes openAfter
+
     pass-tree : (t : Tree) (at deep : ℕ) → Stands tree at (layout t) → 0 < deep
         → balance tree (rowCount tree - at) at deep ≡ balance tree (rowCount tree - (at + size t)) (at + size t) deep
     pass-tree (leaf kind from long) at deep s deeper = balance-on tree (rowCount tree) at deep (tag-there s) (there s) (omega arith) (omega arith)
@@ -131,6 +133,7 @@ module _ (tree : List ℕ) where
   module _ (to : ℕ) where
     mutual
       unfolding layout layouts size sizes firstLeaf firstOf
+
       first-tree : (t : Tree) (at : ℕ) → Stands tree at (layout t) → at + size t ≤ to → leafAt tree (firstFrom tree (to - at) at) ≡ firstLeaf t
       first-tree (leaf kind from long) at s fits =
           ap (leafAt tree) (first-next tree to at (tag-there s) (omega arith)) ∙ leaf-found s
@@ -146,6 +149,7 @@ module _ (tree : List ℕ) where
   -- ---- the last token: what comes before these rows counts where they hold none
   mutual
     unfolding layout layouts size sizes lastLeaf lastOf
+
     last-tree : (t : Tree) (at : ℕ) → Stands tree at (layout t) → leafAt tree (lastBefore tree (at + size t)) ≡ lastLeaf t
     last-tree (leaf kind from long) at s = ap (leafAt tree) (last-step tree at (tag-there s)) ∙ leaf-found s
     last-tree (node kind children) at s =
@@ -192,14 +196,22 @@ module _ (tree : List ℕ) (row : ℕ) (children : Forest) (s : Stands tree row 
       record {
         first = rw formula-is (first-all children (row + 1) (n .inside));
         last =
-        rw formula-is
-        (last-forest tree children (row + 1) (n .inside) ∙ ap (λ (o : Option ℕ). lastOf children (leafAt tree o)) (last-step tree row (tag-there (n .start))));
+            rw formula-is
+            (last-forest tree children (row + 1) (n .inside) ∙ ap (λ (o : Option ℕ). lastOf children (leafAt tree o)) (last-step tree row (tag-there (n .start))));
       }
 
--- in rows that hold the formula's, whatever stands before and behind
-pub on-trees : (before after : List ℕ) (row : ℕ) (children : Forest) → length before ≡ row * Limits.treeWidth
-    → Tokens (before ++ (layout (node ItemFormula children) ++ after)) row (node ItemFormula children)
-on-trees before after row children long =
+-- the three answers, by the row, are those that the source has of the node
+pub record Answers (text tree : List ℕ) (row : ℕ) (t : Tree) : Type 0 where
+  pub display : isDisplay text tree row ≡ display text (firstLeaf t)
+  pub inline : isInline text tree row ≡ inline text (firstLeaf t)
+  pub valid : isValid text tree row ≡ matched text (firstLeaf t) (lastLeaf t)
+
+-- in rows that hold the node's, whatever stands before and behind
+pub on-trees : (text before after : List ℕ) (row : ℕ) (children : Forest) → length before ≡ row * Limits.treeWidth
+    → Answers text (before ++ (layout (node ItemFormula children) ++ after)) row (node ItemFormula children)
+on-trees text before after row children long =
     let rows = layout (node ItemFormula children) in
+    let found =
     tokens (before ++ (rows ++ after)) row children
-    (record { rest = after; is = ap (λ (k : ℕ). drop k (before ++ (rows ++ after))) (sym long) ∙ drop-append-seam before (rows ++ after) })
+    (record { rest = after; is = ap (λ (k : ℕ). drop k (before ++ (rows ++ after))) (sym long) ∙ drop-append-seam before (rows ++ after) }) in
+    record { display = ap (display text) (found .first); inline = ap (inline text) (found .first); valid = ap₂ (matched text) (found .first) (found .last) }

@@ -13,7 +13,7 @@ use lib.ListN.{length, getD, drop, drop-of-length-le}
 use lib.Seq.{drop-cons}
 use Rattle.rules.specs.Flat.{tagStart, tagLeaf, tagFinish}
 use Rattle.rules.specs.SyntaxKind.{ItemFormula}
-use Rattle.rules.specs.Questions.{rowCount, tagAt, kindAt, rangeAt, tagged, isLeaf, leafRange, openAfter, balance, formula, descend, firstFrom, lastBefore, same}
+use Rattle.rules.specs.Questions.{rowCount, tagAt, kindAt, rangeAt, tagged, isLeaf, leafRange, openAfter, balance, formula, descend, firstFrom, lastBefore, Delimiter, same, leafText, leafAt, isDelimiter}
 use Rattle.rules.proofs.Characters.{either}
 
 never : {A : Type 0} {a : A} → none ≡ some a → ⊥
@@ -44,6 +44,19 @@ module _ (text tree : List ℕ) (row : ℕ) where
   pub range-inside : leafRange text tree row .start + leafRange text tree row .size ≤ length text
   unfolding leafRange
   range-inside = either (isLeaf text tree row) (λ e. rw e (is-leaf e .1)) (λ e. rw e (omega arith))
+
+  -- what is asked of a leaf inside the text, and of another row
+  module _ (d : Delimiter) where
+    pub delimiter-inside : isLeaf text tree row ≡ true
+        → isDelimiter text d (leafAt tree (some row)) ≡ (eqb (kindAt tree row) (d .kind) && same (leafText text tree row) (d .bytes))
+    unfolding isLeaf isDelimiter leafText leafRange
+    delimiter-inside e =
+        let h = and-eq-true-iff (tagged tagLeaf tree row) (leb (rangeAt tree row .start + rangeAt tree row .size) (length text)) .0 e in
+        rw (h .0, h .1)
+
+    pub delimiter-outside : isLeaf text tree row ≡ false → isDelimiter text d (leafAt tree (some row)) ≡ false
+    unfolding isLeaf isDelimiter
+    delimiter-outside e = either (tagged tagLeaf tree row) (λ leaf. rw leaf (rw (rw leaf at e))) (λ other. rw other)
 
 -- ---- the matching finish
 pub open-after-most : (tag deep : ℕ) → openAfter tag deep ≤ deep + 1

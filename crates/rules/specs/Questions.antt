@@ -135,44 +135,54 @@ same [] (b ∷ right) = false
 same (a ∷ left) [] = false
 same (a ∷ left) (b ∷ right) = eqb a b && same left right
 
--- whether a token is this delimiter. "If one of them is asked about and lies outside the text: no."
-unfoldable pub isDelimiter : List ℕ → List ℕ → Delimiter → Option ℕ → Bool
-isDelimiter text tree d none = false
-isDelimiter text tree d (some row) = isLeaf text tree row && (eqb (kindAt tree row) (d .kind) && same (leafText text tree row) (d .bytes))
-
--- ---- the three questions
--- whether the first token is one of two delimiters; the last is not asked about
-unfoldable pub opens : List ℕ → List ℕ → Delimiter → Delimiter → ℕ → Bool
-opens text tree one other row = isDelimiter text tree one (firstToken tree row) || isDelimiter text tree other (firstToken tree row)
-
--- `is_display`: `$$` or `\[`
-abbrev pub isDisplay : List ℕ → List ℕ → ℕ → Bool
-isDisplay text tree row = opens text tree dollars beginDisplay row
-
--- `is_inline`: `$` or `\(`
-abbrev pub isInline : List ℕ → List ℕ → ℕ → Bool
-isInline text tree row = opens text tree dollar beginInline row
-
--- whether the one token is this delimiter and the other that one
-unfoldable pub between : List ℕ → List ℕ → Delimiter → Delimiter → Option ℕ → Option ℕ → Bool
-between text tree opener closer first last = isDelimiter text tree opener first && isDelimiter text tree closer last
-
--- whether two tokens match: `$` and `$`, `$$` and `$$`, `\(` and `\)`, `\[` and `\]`
-unfoldable pub matched : List ℕ → List ℕ → Option ℕ → Option ℕ → Bool
-matched text tree first last =
-    between text tree dollar dollar first last
-    || (between text tree dollars dollars first last
-    || (between text tree beginInline endInline first last || between text tree beginDisplay endDisplay first last))
-
--- "`is_valid` asks only whether these two tokens match, so a lone `$` is valid, as in the source."
-unfoldable pub isValid : List ℕ → List ℕ → ℕ → Bool
-isValid text tree row = matched text tree (firstToken tree row) (lastToken tree row)
-
--- ---- the tokens of a tree, as rowan has them
 -- a leaf's kind and the range of its text
 abbrev pub Leaf : Type 0
 Leaf = ℕ × Range
 
+-- what the row of a token says of it
+abbrev pub leafAt : List ℕ → Option ℕ → Option Leaf
+leafAt tree none = none
+leafAt tree (some row) = cond (tagged tagLeaf tree row) (some (kindAt tree row, rangeAt tree row)) none
+
+-- whether a token is this delimiter. "If one of them is asked about and lies outside the text: no."
+unfoldable pub isDelimiter : List ℕ → Delimiter → Option Leaf → Bool
+isDelimiter text d none = false
+isDelimiter text d (some l) =
+    leb (l .1 .start + l .1 .size) (length text) && (eqb (l .0) (d .kind) && same (part text (l .1 .start) (l .1 .size)) (d .bytes))
+
+-- whether it is one of two
+unfoldable pub oneOf : List ℕ → Delimiter → Delimiter → Option Leaf → Bool
+oneOf text one other token = isDelimiter text one token || isDelimiter text other token
+
+-- whether the one token is this delimiter and the other that one
+unfoldable pub between : List ℕ → Delimiter → Delimiter → Option Leaf → Option Leaf → Bool
+between text opener closer first last = isDelimiter text opener first && isDelimiter text closer last
+
+-- ---- the three questions of a first and a last token. `is_display` and `is_inline` ask for the first alone
+abbrev pub display : List ℕ → Option Leaf → Bool
+display text first = oneOf text dollars beginDisplay first
+
+abbrev pub inline : List ℕ → Option Leaf → Bool
+inline text first = oneOf text dollar beginInline first
+
+-- "`is_valid` asks only whether these two tokens match, so a lone `$` is valid, as in the source."
+unfoldable pub matched : List ℕ → Option Leaf → Option Leaf → Bool
+matched text first last =
+    between text dollar dollar first last
+    || (between text dollars dollars first last
+    || (between text beginInline endInline first last || between text beginDisplay endDisplay first last))
+
+-- ---- of a tree row
+abbrev pub isDisplay : List ℕ → List ℕ → ℕ → Bool
+isDisplay text tree row = display text (leafAt tree (firstToken tree row))
+
+abbrev pub isInline : List ℕ → List ℕ → ℕ → Bool
+isInline text tree row = inline text (leafAt tree (firstToken tree row))
+
+abbrev pub isValid : List ℕ → List ℕ → ℕ → Bool
+isValid text tree row = matched text (leafAt tree (firstToken tree row)) (leafAt tree (lastToken tree row))
+
+-- ---- of a node of a tree: its tokens as rowan has them
 unfoldable mutual
   -- `first_token`: the first child's, if there is a child
   pub firstLeaf : Tree → Option Leaf
@@ -192,11 +202,6 @@ unfoldable mutual
   pub lastOf : Forest → Option Leaf → Option Leaf
   lastOf Forest.none before = before
   lastOf (more child rest) before = lastOf rest (lastLeaf child)
-
--- what a row says of its leaf
-abbrev pub leafAt : List ℕ → Option ℕ → Option Leaf
-leafAt tree none = none
-leafAt tree (some row) = cond (tagged tagLeaf tree row) (some (kindAt tree row, rangeAt tree row)) none
 
 -- ---- examples, as one table, and one theorem over it that antt computes
 pub record Example : Type 0 where
@@ -432,5 +437,5 @@ asked e = (
 )
 
 answers : map asked examples ≡ map (λ (e : Example). (e .formula, e .leaf)) examples
-unfolding layout tagged rangeAt isLeaf leafRange leafText openAfter balance formula firstFrom lastBefore firstToken lastToken same isDelimiter opens between matched isValid
+unfolding layout tagged rangeAt isLeaf leafRange leafText openAfter balance formula firstFrom lastBefore firstToken lastToken same isDelimiter oneOf between matched
 answers = refl
