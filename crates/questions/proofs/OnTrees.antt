@@ -1,6 +1,6 @@
 -- In rows that a tree is laid out in, the questions of a formula's row have the answers that the source has of its node: by induction over the tree the walk
 -- to the finish passes each child's rows as one, and the first and the last row that is not passed are the leaves that rowan descends to. Assumes nothing.
-use Prim.Native.Nat.{ℕ, suc, _+_, _*_, _-_, _≤_, _<_}
+use Prim.Native.Nat.{ℕ, _+_, _*_, _-_, _≤_, _<_}
 use mathlib.Core.List.{List, [], _∷_, _++_, append-assoc}
 use mathlib.Core.Option.{Option, none, some}
 use mathlib.Core.Path.{_≡_, refl, sym, ap, ap₂, _∙_}

@@ -1,6 +1,6 @@
 -- The questions about tree rows: three about a formula (`FormulaItem` of syntax.rs), whether a row is a leaf inside the text, and a leaf's text.
 -- They have an answer for any numbers in the place of rows.
-use Prim.Native.Nat.{ℕ, zero, suc, _+_, _*_, _-_, _/_}
+use Prim.Native.Nat.{ℕ, zero, suc, _+_, _-_, _/_}
 use mathlib.Core.Bool.{Bool, true, false, cond, _&&_, _||_}
 use mathlib.Core.List.{List, [], _∷_, _++_, map}
 use mathlib.Core.Option.{Option, none, some}
@@ -43,6 +43,7 @@ unfoldable pub isLeaf : List ℕ → List ℕ → ℕ → Bool
 isLeaf text tree row = tagged tagLeaf tree row && leb (rangeAt tree row .start + rangeAt tree row .size) (length text)
 
 -- "The text of a leaf row comes back as that part of the caller's text; for a leaf outside it, another row or no row, as the empty part at the text's start."
+-- A leaf of no bytes inside the text has the empty part at its own start
 unfoldable pub leafRange : List ℕ → List ℕ → ℕ → Range
 leafRange text tree row = cond (isLeaf text tree row) (rangeAt tree row) (record { start = 0; size = 0 })
 

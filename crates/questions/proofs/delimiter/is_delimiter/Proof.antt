@@ -1,5 +1,5 @@
 -- `is_delimiter` meets its contract: of a leaf inside the text the kind and the bytes are asked, of nothing else anything. Assumes nothing.
-use mathlib.Core.Path.{sym, ap, _∙_}
+use mathlib.Core.Path.{sym, _∙_}
 use borrow.Author.Needs.{needs}
 use borrow.Author.Tests.{eq-eqb, ne-eqb}
 use Rattle.rules.specs.Questions.{isDelimiter}
