@@ -4,6 +4,7 @@ pub mod Characters
 pub mod Checks
 pub mod Flat
 pub mod OnTree
+pub mod Questions
 pub mod Related
 pub mod Render
 pub mod Room

@@ -18,5 +18,6 @@ pub mod Reading
 pub mod Checks
 pub mod Run
 pub mod Tree
+pub mod Questions
 pub mod Rowan
 pub mod Cases

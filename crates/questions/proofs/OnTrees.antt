@@ -1,0 +1,217 @@
+-- In rows that a tree is laid out in, the questions of a formula's row have the answers that the source has of its node: by induction over the tree the walk
+-- to the finish passes each child's rows as one, and the first and the last row that is not passed are the leaves that rowan descends to. Assumes nothing.
+use Prim.Native.Nat.{ℕ, _+_, _*_, _-_, _≤_, _<_}
+use mathlib.Core.List.{List, [], _∷_, _++_, append-assoc}
+use mathlib.Core.Option.{Option, none, some}
+use mathlib.Core.Path.{_≡_, refl, sym, ap, ap₂, _∙_}
+use borrow.Author.Tests.{lt-ltb}
+use native.Mathlib.Nat.{add-zero, add-assoc}
+use native.Mathlib.Omega.{arith}
+use lib.ListN.{length, getD, drop, length-append, length-drop}
+use lib.Seq.{drop-drop, drop-append-seam, getD-drop}
+use Rattle.rules.specs.Flat.{leafRow, startRow, finishRow}
+use Rattle.rules.specs.Limits
+use Rattle.rules.specs.Questions.{rowCount, tagAt, tagged, rangeAt, openAfter, balance, formula, firstToken, lastToken, firstFrom, lastBefore, firstLeaf, firstOf, lastLeaf, lastOf, leafAt, display, inline, matched, isDisplay, isInline, isValid}
+use Rattle.rules.proofs.Questions.{balance-on, balance-here, first-next, first-end, last-step}
+use Rattle.rules.specs.SyntaxKind.{ItemFormula}
+use Rattle.rules.specs.Tables.{cell}
+use Rattle.rules.specs.Tree.{Tree, Forest, leaf, node, more, layout, layouts}
+
+-- ---- from a row on stand these numbers
+pub record Stands (tree : List ℕ) (row : ℕ) (numbers : List ℕ) : Type 0 where
+  pub rest : List ℕ
+  pub is : drop (row * Limits.treeWidth) tree ≡ numbers ++ rest
+
+module _ {tree : List ℕ} {row : ℕ} (a b : List ℕ) (s : Stands tree row (a ++ b)) where
+  stands-first : Stands tree row a
+  stands-first = record { rest = b ++ s .rest; is = s .is ∙ append-assoc a b (s .rest) }
+
+  stands-then : (count : ℕ) → length a ≡ count * Limits.treeWidth → Stands tree (row + count) b
+  stands-then count long =
+      let on : (row + count) * Limits.treeWidth ≡ row * Limits.treeWidth + length a = omega arith in
+      record {
+        rest = s .rest;
+        is = rw on (sym (drop-drop (length a) (row * Limits.treeWidth) tree) ∙ ap (drop (length a)) (s .is ∙ append-assoc a b (s .rest)) ∙ drop-append-seam a (b ++ s .rest));
+      }
+
+-- one row
+module _ {tree : List ℕ} {row tag kind from size : ℕ} (s : Stands tree row (tag ∷ kind ∷ from ∷ size ∷ [])) where
+  there : row < rowCount tree
+  there = omega (arith, ap length (s .is), length-drop (row * Limits.treeWidth) tree)
+
+  number : (column : ℕ) → cell Limits.treeWidth tree row column ≡ getD (tag ∷ kind ∷ from ∷ size ∷ s .rest) column 0
+  number column = sym (getD-drop (row * Limits.treeWidth) tree column 0) ∙ ap (λ (l : List ℕ). getD l column 0) (s .is)
+
+  tag-there : tag ≡ tagAt tree row
+  tag-there = sym (number 0)
+
+-- ---- how many rows a tree takes
+unfoldable mutual
+  pub size : Tree → ℕ
+  size (leaf kind from long) = 1
+  size (node kind children) = 1 + sizes children + 1
+
+  pub sizes : Forest → ℕ
+  sizes Forest.none = 0
+  sizes (more child rest) = size child + sizes rest
+
+mutual
+  unfolding layout layouts size sizes
+
+  length-layout : (t : Tree) → length (layout t) ≡ size t * Limits.treeWidth
+  length-layout (leaf kind from long) = refl
+  length-layout (node kind children) =
+      let inside = length-layouts children in
+      simp length-append (omega arith)
+
+  length-layouts : (f : Forest) → length (layouts f) ≡ sizes f * Limits.treeWidth
+  length-layouts Forest.none = refl
+  length-layouts (more child rest) =
+      let first = length-layout child in
+      let others = length-layouts rest in
+      simp length-append (omega arith)
+
+-- ---- the rows of a node: its start, its children, its finish
+pub record Node (tree : List ℕ) (at kind : ℕ) (children : Forest) : Type 0 where
+  pub start : Stands tree at (startRow kind)
+  pub inside : Stands tree (at + 1) (layouts children)
+  pub finish : Stands tree (at + 1 + sizes children) (finishRow kind)
+
+node-rows : {tree : List ℕ} {at : ℕ} (kind : ℕ) (children : Forest) → Stands tree at (layout (node kind children)) → Node tree at kind children
+unfolding layout
+node-rows kind children s =
+    let behind = stands-then (startRow kind) (layouts children ++ finishRow kind) s 1 refl in
+    record {
+      start = stands-first (startRow kind) (layouts children ++ finishRow kind) s;
+      inside = stands-first (layouts children) (finishRow kind) behind;
+      finish = stands-then (layouts children) (finishRow kind) behind (sizes children) (length-layouts children);
+    }
+
+-- the rows of a first child and of those behind it
+pub record Split (tree : List ℕ) (at : ℕ) (child : Tree) (rest : Forest) : Type 0 where
+  pub first : Stands tree at (layout child)
+  pub others : Stands tree (at + size child) (layouts rest)
+
+split : {tree : List ℕ} {at : ℕ} (child : Tree) (rest : Forest) → Stands tree at (layouts (more child rest)) → Split tree at child rest
+unfolding layouts
+split child rest s =
+    record {
+      first = stands-first (layout child) (layouts rest) s;
+      others = stands-then (layout child) (layouts rest) s (size child) (length-layout child);
+    }
+
+-- ---- the matching finish: the rows of whole trees are passed, and what is open stays open
+module _ (tree : List ℕ) where
+  mutual
+    unfolding layout layouts size sizes openAfter
+
+    pass-tree : (t : Tree) (at deep : ℕ) → Stands tree at (layout t) → 0 < deep
+        → balance tree (rowCount tree - at) at deep ≡ balance tree (rowCount tree - (at + size t)) (at + size t) deep
+    pass-tree (leaf kind from long) at deep s deeper = balance-on tree (rowCount tree) at deep (tag-there s) (there s) (omega arith) (omega arith)
+    pass-tree (node kind children) at deep s deeper =
+        let n = node-rows kind children s in
+        let back : deep + 1 - 1 ≡ deep = omega arith in
+        let here : at + 1 + sizes children + 1 ≡ at + (1 + sizes children + 1) = omega arith in
+        balance-on tree (rowCount tree) at deep (tag-there (n .start)) (there (n .start)) (omega arith) (omega arith)
+        ∙ pass-forest children (at + 1) (deep + 1) (n .inside) (omega arith)
+        ∙ balance-on tree (rowCount tree) (at + 1 + sizes children) (deep + 1) (tag-there (n .finish)) (there (n .finish)) (omega arith) (omega arith)
+        ∙ rw (back, here)
+
+    pass-forest : (f : Forest) (at deep : ℕ) → Stands tree at (layouts f) → 0 < deep
+        → balance tree (rowCount tree - at) at deep ≡ balance tree (rowCount tree - (at + sizes f)) (at + sizes f) deep
+    pass-forest Forest.none at deep s deeper = rw add-zero
+    pass-forest (more child rest) at deep s deeper =
+        let parts = split child rest s in
+        pass-tree child at deep (parts .first) deeper ∙ pass-forest rest (at + size child) deep (parts .others) deeper ∙ rw add-assoc
+
+  -- what a leaf's row says
+  leaf-found : {at kind from long : ℕ} → Stands tree at (leafRow kind from long) → leafAt tree (some at) ≡ some (kind, record { start = from; size = long })
+  unfolding tagged rangeAt
+  leaf-found {at} s = rw (lt-ltb at (rowCount tree) (there s), number s 0, number s 1, number s 2, number s 3)
+
+  -- ---- the first token: up to a row that is not before the end of the first child
+  module _ (to : ℕ) where
+    mutual
+      unfolding layout layouts size sizes firstLeaf firstOf
+
+      first-tree : (t : Tree) (at : ℕ) → Stands tree at (layout t) → at + size t ≤ to → leafAt tree (firstFrom tree (to - at) at) ≡ firstLeaf t
+      first-tree (leaf kind from long) at s fits =
+          ap (leafAt tree) (first-next tree to at (tag-there s) (omega arith)) ∙ leaf-found s
+      first-tree (node kind children) at s fits =
+          let n = node-rows kind children s in
+          ap (leafAt tree) (first-next tree to at (tag-there (n .start)) (omega arith))
+          ∙ first-inside children (at + 1) (n .inside) (n .finish) (omega arith)
+
+      first-inside : (f : Forest) (at : ℕ) {kind : ℕ} → Stands tree at (layouts f) → Stands tree (at + sizes f) (finishRow kind) → at + sizes f < to → leafAt tree (firstFrom tree (to - at) at) ≡ firstOf f
+      first-inside Forest.none at s end fits = ap (leafAt tree) (first-next tree to at (tag-there (rw add-zero at end)) (omega arith))
+      first-inside (more child rest) at s end fits = first-tree child at (split child rest s .first) (omega arith)
+
+  -- ---- the last token: what comes before these rows counts where they hold none
+  mutual
+    unfolding layout layouts size sizes lastLeaf lastOf
+
+    last-tree : (t : Tree) (at : ℕ) → Stands tree at (layout t) → leafAt tree (lastBefore tree (at + size t)) ≡ lastLeaf t
+    last-tree (leaf kind from long) at s = ap (leafAt tree) (last-step tree at (tag-there s)) ∙ leaf-found s
+    last-tree (node kind children) at s =
+        let n = node-rows kind children s in
+        let here : at + (1 + sizes children + 1) ≡ at + 1 + sizes children + 1 = omega arith in
+        ap (λ (end : ℕ). leafAt tree (lastBefore tree end)) here
+        ∙ ap (leafAt tree) (last-step tree (at + 1 + sizes children) (tag-there (n .finish)))
+        ∙ last-forest children (at + 1) (n .inside)
+        ∙ ap (λ (o : Option ℕ). lastOf children (leafAt tree o)) (last-step tree at (tag-there (n .start)))
+
+    last-forest : (f : Forest) (at : ℕ) → Stands tree at (layouts f) → leafAt tree (lastBefore tree (at + sizes f)) ≡ lastOf f (leafAt tree (lastBefore tree at))
+    last-forest Forest.none at s = rw add-zero
+    last-forest (more child rest) at s =
+        let parts = split child rest s in
+        let here : at + (size child + sizes rest) ≡ at + size child + sizes rest = omega arith in
+        ap (λ (end : ℕ). leafAt tree (lastBefore tree end)) here
+        ∙ last-forest rest (at + size child) (parts .others)
+        ∙ ap (lastOf rest) (last-tree child at (parts .first))
+
+-- ---- a formula's tokens, by the rows, are those that rowan has of its node
+pub record Tokens (tree : List ℕ) (row : ℕ) (t : Tree) : Type 0 where
+  pub first : leafAt tree (firstToken tree row) ≡ firstLeaf t
+  pub last : leafAt tree (lastToken tree row) ≡ lastLeaf t
+
+module _ (tree : List ℕ) (row : ℕ) (children : Forest) (s : Stands tree row (layout (node ItemFormula children))) where
+  n : Node tree row ItemFormula children
+  n = node-rows ItemFormula children s
+
+  formula-is : formula tree row ≡ some (row + 1 + sizes children)
+  unfolding formula tagged openAfter
+  formula-is =
+      rw (lt-ltb row (rowCount tree) (there (n .start)), number (n .start) 0, number (n .start) 1)
+      (pass-forest tree children (row + 1) 1 (n .inside) (omega arith)
+      ∙ balance-here tree (rowCount tree) (row + 1 + sizes children) 1 (tag-there (n .finish)) (there (n .finish)) (omega arith) refl)
+
+  first-all : (f : Forest) (at : ℕ) → Stands tree at (layouts f) → leafAt tree (firstFrom tree (at + sizes f - at) at) ≡ firstOf f
+  unfolding sizes firstOf
+  first-all Forest.none at inside = ap (leafAt tree) (first-end tree (at + 0) at (omega arith))
+  first-all (more child rest) at inside = first-tree tree (at + sizes (more child rest)) child at (split child rest inside .first) (omega arith)
+
+  tokens : Tokens tree row (node ItemFormula children)
+  unfolding firstToken lastToken firstLeaf lastLeaf
+  tokens =
+      record {
+        first = rw formula-is (first-all children (row + 1) (n .inside));
+        last =
+            rw formula-is
+            (last-forest tree children (row + 1) (n .inside) ∙ ap (λ (o : Option ℕ). lastOf children (leafAt tree o)) (last-step tree row (tag-there (n .start))));
+      }
+
+-- the three answers, by the row, are those that the source has of the node
+pub record Answers (text tree : List ℕ) (row : ℕ) (t : Tree) : Type 0 where
+  pub display : isDisplay text tree row ≡ display text (firstLeaf t)
+  pub inline : isInline text tree row ≡ inline text (firstLeaf t)
+  pub valid : isValid text tree row ≡ matched text (firstLeaf t) (lastLeaf t)
+
+-- in rows that hold the node's, whatever stands before and behind
+pub on-trees : (text before after : List ℕ) (row : ℕ) (children : Forest) → length before ≡ row * Limits.treeWidth
+    → Answers text (before ++ (layout (node ItemFormula children) ++ after)) row (node ItemFormula children)
+on-trees text before after row children long =
+    let rows = layout (node ItemFormula children) in
+    let found =
+    tokens (before ++ (rows ++ after)) row children
+    (record { rest = after; is = ap (λ (k : ℕ). drop k (before ++ (rows ++ after))) (sym long) ∙ drop-append-seam before (rows ++ after) }) in
+    record { display = ap (display text) (found .first); inline = ap (inline text) (found .first); valid = ap₂ (matched text) (found .first) (found .last) }
