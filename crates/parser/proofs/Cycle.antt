@@ -1,4 +1,4 @@
--- The walk in the cycle: calls of members at the caller's level and below it, and steps that change the list alone. Assumes nothing.
+-- The walk in the cycle: calls of members at the caller's level and below it, a node that is ended on the way, and steps that change the list or what is held alone. Assumes nothing.
 use mathlib.Core.Path.{_≡_, refl, ap, _∙_}
 use mathlib.Core.List.{List, [], _∷_, _++_}
 use Prim.Native.Nat.{ℕ, zero, suc, _+_, _≤_}
