@@ -15,7 +15,7 @@ use Rattle.routines.specs.declared.state.ListState.{ListState}
 use Rattle.routines.specs.declared.state.Parser.{Parser}
 use Rattle.routines.specs.declared.state.Step.{Step}
 use Rattle.routines.specs.declared.state.Step.the-variants.{Went}
-use Rattle.routines.proofs.Walk.{Rule, line, Walk, Call, stays-home, leaves, passed-then, weaker}
+use Rattle.routines.proofs.Walk.{Rule, line, Walk, Call, steps-on, stays-home, leaves, passed-then, weaker}
 
 -- ---- calls
 
@@ -50,17 +50,6 @@ unnested (f ∷ inner) rest n d q = bind-bind (f n d q) (line inner n d) (line r
 
 -- ---- a node is ended before the last step
 
--- what is left once the callee went
-called : {t : Tables} {rule f : Rule} {rest : List Rule} {gain lift : ℕ} {scope : ParseScope} {s : Parser} {m : Buffers} {u : Parser} {v : Buffers} {r : Step} {x : Buffers} {Q : Parser → Type 0} {z : Parser}
-    → Walk t rule (f ∷ rest) gain lift scope s m u v → Call t f lift Q u v r x → r ≡ Went z → (d : ℕ) → nodes ≤ s .builder .depth + d
-    → rule (length (m .tree)) d (posOf s m) ≡ line rest (length (m .tree)) d (posOf z x)
-unfolding line
-called {f = f} {m = m} {u} {v} {x = x} {z = z} w k e d h =
-    let depth = w .depth in
-    let told = rw (w .passed .tree-long) at (k .is (w .ready) d (omega arith)) in
-    let is : f (length (m .tree)) d (posOf u v) ≡ went (posOf z x) = told ∙ ap (λ (y : Step). outOf y x) e in
-    w .is d h ∙ rw is
-
 -- the callee went, and ended the node that the routine opened: it is in its own again
 pub leaves-node : {t : Tables} {rule f : Rule} {rest : List Rule} {gain : ℕ} {scope : ParseScope} {s : Parser} {m : Buffers} {u : Parser} {v : Buffers} {r : Step} {x : Buffers} {z : Parser}
     → Ready t s m → Walk t rule (f ∷ rest) gain 1 scope s m u v → Call t f 1 (λ q. Ended t (s .builder .first) (s .builder .node) u v q x) u v r x → r ≡ Went z
@@ -75,7 +64,7 @@ leaves-node {gain = gain} ready w k e =
     let within = ready .within in
     let rows = passed .rows in
     record {
-      is = called w k e;
+      is = steps-on w k e;
       passed = weaker gain (omega arith) passed;
       ready = record { steady = ended .steady; within = record { depth = omega arith; first = omega arith; node = omega arith } };
       depth = omega arith;
