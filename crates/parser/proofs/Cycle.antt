@@ -6,15 +6,16 @@ use native.Mathlib.Omega.{arith}
 use lib.ListN.{length}
 use Rattle.rules.specs.Limits.{nodes}
 use Rattle.rules.specs.Outcome.{Out, went, refused, bind}
-use Rattle.rules.specs.Checks.{Tables}
+use Rattle.rules.specs.Checks.{Tables, sourceOf}
 use Rattle.syntax.specs.declared.parse_scope.ParseScope.{ParseScope}
 use Rattle.routines.specs.Stands.{Buffers, Here, posOf, outOf}
-use Rattle.routines.specs.Change.{relisted, unheld}
-use Rattle.routines.specs.Contract.{MarkOk, Ready, Left, Ended, Runs}
+use Rattle.routines.specs.Change.{relisted, remarked, unheld}
+use Rattle.routines.specs.Contract.{MarkOk, Ready, Left, Ended, Gone, Runs, Ran, RuleOf}
 use Rattle.routines.specs.declared.state.ListState.{ListState}
+use Rattle.routines.specs.declared.state.Mark.{Mark}
 use Rattle.routines.specs.declared.state.Parser.{Parser}
 use Rattle.routines.specs.declared.state.Step.{Step}
-use Rattle.routines.specs.declared.state.Step.the-variants.{Went}
+use Rattle.routines.specs.declared.state.Step.the-variants.{Went, Refused}
 use Rattle.routines.proofs.Walk.{Rule, line, Walk, Call, steps-on, stays-home, leaves, passed-then, weaker}
 
 -- ---- calls
@@ -47,6 +48,11 @@ pub unnested : (inner rest : List Rule) (n d : ℕ) (q : Here) → line (line in
 unfolding line
 unnested [] rest n d q = refl
 unnested (f ∷ inner) rest n d q = bind-bind (f n d q) (line inner n d) (line rest n d) ∙ same-after (f n d q) _ _ (unnested inner rest n d)
+
+-- a step, and then a rule that is steps itself
+pub opened : (f : Rule) (inner rest : List Rule) (n d : ℕ) (q : Here) → line (f ∷ line inner ∷ rest) n d q ≡ line (f ∷ (inner ++ rest)) n d q
+unfolding line
+opened f inner rest n d q = same-after (f n d q) _ _ (unnested inner rest n d)
 
 -- ---- a node is ended before the last step
 
@@ -101,6 +107,11 @@ module _ {t : Tables} {rule f : Rule} {rest : List Rule} {gain lift : ℕ} {scop
         scope-is = refl;
       })
 
+  -- the code took other marks, in a list of the same scope
+  pub remarks : {z : Parser} (start last : Mark) → z ≡ remarked u start last → MarkOk start (u .builder) → MarkOk last (u .builder) → ((n d : ℕ) → f n d (posOf u v) ≡ went (posOf (remarked u start last) v))
+      → Walk t rule rest gain lift scope s m z v
+  remarks start last e first second is = rw (w .scope-is) at (relists (record { scope = u .list .scope; start = start; last = last }) e first second is)
+
   -- nothing is held any more
   pub unholds : {z : Parser} → z ≡ unheld u → ((n d : ℕ) → f n d (posOf u v) ≡ went (posOf (unheld u) v)) → Walk t rule rest gain lift scope s m z v
   unholds e is =
@@ -121,3 +132,26 @@ module _ {t : Tables} {rule f : Rule} {rest : List Rule} {gain lift : ℕ} {scop
         home = stays-home lift s u (unheld u) refl refl (w .home);
         scope-is = w .scope-is;
       })
+
+-- ---- a member that hands on to one routine alone
+
+-- the same by another rule that comes to the same
+pub runs-as : {t : Tables} {gain : ℕ} {want other : ℕ → ℕ → Out Here} {p : Parser} {m : Buffers} {r : Step} {v : Buffers} → Runs t gain want p m r v → ((n d : ℕ) → other n d ≡ want n d) → Runs t gain other p m r v
+runs-as {m = m} k same = record { is = λ d h. same (length (m .tree)) d ∙ k .is d h; gone = k .gone }
+
+-- a routine outside the cycle
+pub ran-runs : {t : Tables} {sees : Tables → Type 0} {gain : ℕ} {rule : RuleOf} {p : Parser} {m : Buffers} {r : Step} {v : Buffers} → sees t → Ready t p m → Ran sees gain rule p m r v
+    → Runs t gain (λ n d. rule (sourceOf t) n (posOf p m)) p m r v
+ran-runs {t} seen ready k = record { is = λ d h. k .told t seen ready .is; gone = k .told t seen ready .gone }
+
+-- a member that opens a node, called where another level is left
+pub above : {t : Tables} {gain : ℕ} {want : ℕ → ℕ → Out Here} {p : Parser} {m : Buffers} {r : Step} {v : Buffers} → Runs t gain want p m r v → Runs t gain (λ n d. want n (suc d)) p m r v
+above k = record { is = λ d h. k .is (suc d) (omega arith); gone = k .gone }
+
+-- a member that promises less of what it reads than its callee
+gone-less : (t : Tables) (gain less : ℕ) (p : Parser) (m v : Buffers) → less ≤ gain → (r : Step) → Gone (λ q. Left t gain p m q v) r → Gone (λ q. Left t less p m q v) r
+gone-less t gain less p m v h (Went q) k = record { passed = weaker less h (k .passed); ready = k .ready; depth = k .depth; first = k .first; node = k .node; scope = k .scope }
+gone-less t gain less p m v h (Refused number place) k = tt
+
+pub read-less : {t : Tables} {gain less : ℕ} {want : ℕ → ℕ → Out Here} {p : Parser} {m : Buffers} {r : Step} {v : Buffers} → less ≤ gain → Runs t gain want p m r v → Runs t less want p m r v
+read-less {t} {gain} {less} {p = p} {m} {r} {v} h k = record { is = k .is; gone = gone-less t gain less p m v h r (k .gone) }

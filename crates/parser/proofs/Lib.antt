@@ -1,3 +1,9 @@
 -- What the proofs of several functions use.
+pub mod AfterArgument
+pub mod ArgumentLoop
+pub mod Choices
 pub mod Cycle
+pub mod Entry
+pub mod ItemLoop
 pub mod Marks
+pub mod WordLoop

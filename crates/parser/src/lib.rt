@@ -1,14 +1,693 @@
-// The parser above its routines: what lists ask around each item, and parts of items with no item inside.
+// The cycle of calls: items inside items. Each member comes to what its rule says at every level that is enough for the nodes that may yet be opened.
 mod clauses;
 mod lists;
 
-pub use clauses::character;
-pub use clauses::end_clause;
-pub use clauses::left1_command;
-pub use clauses::right_clause;
-pub use clauses::start_attach_at;
-pub use clauses::word;
-pub use lists::last_after;
-pub use lists::more_items;
-pub use lists::new_list;
-pub use lists::new_marks;
+ghost use mathlib.Core.Path.{_≡_};
+ghost use Rattle.rules.specs.Checks.{sourceOf};
+ghost use Rattle.rules.specs.Flat.{flat};
+ghost use Rattle.rules.specs.Items.{classCommand, classEnvironment};
+ghost use Rattle.rules.specs.Reading as spec;
+ghost use Rattle.arg_match.specs.Answers.{matcherOf};
+ghost use Rattle.items.specs.Items.{shapeFor, pieceFor};
+ghost use Rattle.routines.specs.Contract.{MarkOk, Ready, Holding};
+ghost use Rattle.routines.specs.Stands.{markOf};
+ghost use Rattle.syntax.specs.ParseScope.{scopeOf};
+ghost use Rattle.parser.specs.Member.{tables, buffers, Opening, Within, Next, WordIf, listItems, allArguments, greedyCommand, matchedCommand, attachmentAt, shapeIn};
+use arg_match::ArgMatcher;
+use arg_match::Argument;
+use arg_match::Tried;
+use clauses::character;
+use clauses::end_clause;
+use clauses::left1_command;
+use clauses::right_clause;
+use clauses::start_attach_at;
+use clauses::word;
+use items::Choice;
+use items::Item;
+use items::Piece;
+use items::Shape;
+use items::choose;
+use items::closer;
+use items::group_kind;
+use items::item_of;
+use lexer::Column;
+use lexer::Peeked;
+use lexer::cell;
+use lexer::char_len;
+use lists::last_after;
+use lists::more_items;
+use lists::new_list;
+use lists::new_marks;
+use routines::Mark;
+use routines::Parser;
+use routines::Step;
+use routines::clause_lr;
+use routines::eat;
+use routines::eat_if;
+use routines::extract_holding_trivia;
+use routines::hold_trivia;
+use routines::ignore_holding_trivia;
+use routines::one_in;
+use routines::skipped_body;
+use routines::start_command_at;
+use routines::trivia;
+use syntax::Class;
+use syntax::Form;
+use syntax::Limits;
+use syntax::ParseScope;
+use syntax::Refusal;
+use syntax::SyntaxKind;
+use syntax::Token;
+
+// Items up to the end, or a token that stops them.
+fn items(
+    text: &[u8],
+    tokens: &[u32],
+    shapes: &[u32],
+    states: &[u32],
+    tree: &mut [u32],
+    dropped: &mut [u32],
+    p: Parser,
+    greedy: bool,
+) -> Step
+    requires { ⌜ Ready (tables (now text) (now tokens) (now shapes) (now states)) p (buffers (now tree) (now dropped)) ⌝ }
+    ensures { λ r. ⌜ Within (tables (now (text .entry)) (now (tokens .entry)) (now (shapes .entry)) (now (states .entry))) 0 (λ n inner. listItems (tables (now (text .entry)) (now (tokens .entry)) (now (shapes .entry)) (now (states .entry))) greedy n inner) p (buffers (now (tree .entry)) (now (dropped .entry))) r (buffers (now (tree .exit)) (now (dropped .exit))) ⌝ }
+{
+    let mut now = p;
+    while more_items(tokens, now, greedy) {
+        let r = content(text, tokens, shapes, states, tree, dropped, now, false);
+        let Step::Went(q) = r else {
+            return r;
+        };
+        now = last_after(tokens, shapes, now, q);
+    }
+    Step::Went(now)
+}
+
+// A new list of a scope; the parent's marks are given back.
+fn item_list(
+    text: &[u8],
+    tokens: &[u32],
+    shapes: &[u32],
+    states: &[u32],
+    tree: &mut [u32],
+    dropped: &mut [u32],
+    p: Parser,
+    scope: ParseScope,
+) -> Step
+    requires { ⌜ Ready (tables (now text) (now tokens) (now shapes) (now states)) p (buffers (now tree) (now dropped)) ⌝ }
+    ensures { λ r. ⌜ Within (tables (now (text .entry)) (now (tokens .entry)) (now (shapes .entry)) (now (states .entry))) 0 (λ n inner. spec.itemList (flat n) (sourceOf (tables (now (text .entry)) (now (tokens .entry)) (now (shapes .entry)) (now (states .entry)))) inner (scopeOf scope)) p (buffers (now (tree .entry)) (now (dropped .entry))) r (buffers (now (tree .exit)) (now (dropped .exit))) ⌝ }
+{
+    let a = new_list(p, scope);
+    let r = items(text, tokens, shapes, states, tree, dropped, a, false);
+    let Step::Went(q) = r else {
+        return r;
+    };
+    Step::Went(q.with_list(p.list))
+}
+
+// A group between its braces.
+//   {a}   Curly[{ Text[a] }]
+fn item_group(
+    text: &[u8],
+    tokens: &[u32],
+    shapes: &[u32],
+    states: &[u32],
+    tree: &mut [u32],
+    dropped: &mut [u32],
+    p: Parser,
+    scope: ParseScope,
+) -> Step
+    requires { ⌜ Ready (tables (now text) (now tokens) (now shapes) (now states)) p (buffers (now tree) (now dropped)) × Next (tables (now text) (now tokens) (now shapes) (now states)) p ⌝ }
+    ensures { λ r. ⌜ Opening (tables (now (text .entry)) (now (tokens .entry)) (now (shapes .entry)) (now (states .entry))) 1 (λ n inner. spec.itemGroup (flat n) (sourceOf (tables (now (text .entry)) (now (tokens .entry)) (now (shapes .entry)) (now (states .entry)))) inner (scopeOf scope)) p (buffers (now (tree .entry)) (now (dropped .entry))) r (buffers (now (tree .exit)) (now (dropped .exit))) ⌝ }
+{
+    let r = p.start_node(tree, group_kind(scope));
+    let Step::Went(a) = r else {
+        return r;
+    };
+    let q = eat(tokens, tree, a);
+    let Step::Went(b) = q else {
+        return q;
+    };
+    let o = item_list(text, tokens, shapes, states, tree, dropped, b, scope);
+    let Step::Went(c) = o else {
+        return o;
+    };
+    let n = eat_if(tokens, tree, c, closer(scope));
+    let Step::Went(d) = n else {
+        return n;
+    };
+    d.finish_node(tree, group_kind(scope), p.builder.frame())
+}
+
+// How an argument is read, inside its node.
+fn piece(
+    text: &[u8],
+    tokens: &[u32],
+    shapes: &[u32],
+    states: &[u32],
+    tree: &mut [u32],
+    dropped: &mut [u32],
+    p: Parser,
+    what: Piece,
+) -> Step
+    requires { ⌜ Ready (tables (now text) (now tokens) (now shapes) (now states)) p (buffers (now tree) (now dropped)) × Next (tables (now text) (now tokens) (now shapes) (now states)) p × WordIf what (tables (now text) (now tokens) (now shapes) (now states)) p ⌝ }
+    ensures { λ r. ⌜ Within (tables (now (text .entry)) (now (tokens .entry)) (now (shapes .entry)) (now (states .entry))) 1 (λ n inner. spec.piece (flat n) (sourceOf (tables (now (text .entry)) (now (tokens .entry)) (now (shapes .entry)) (now (states .entry)))) inner (pieceFor what)) p (buffers (now (tree .entry)) (now (dropped .entry))) r (buffers (now (tree .exit)) (now (dropped .exit))) ⌝ }
+{
+    match what {
+        Piece::Character => word(text, tokens, tree, p, true),
+        Piece::Within(scope) => item_group(text, tokens, shapes, states, tree, dropped, p, scope),
+        Piece::Brace => eat(tokens, tree, p),
+        Piece::Item => content(text, tokens, shapes, states, tree, dropped, p, false),
+    }
+}
+
+// An accepted argument: what is held is dropped, and it has a node of its own.
+fn argument(
+    text: &[u8],
+    tokens: &[u32],
+    shapes: &[u32],
+    states: &[u32],
+    tree: &mut [u32],
+    dropped: &mut [u32],
+    p: Parser,
+    what: Piece,
+) -> Step
+    requires { ⌜ Ready (tables (now text) (now tokens) (now shapes) (now states)) p (buffers (now tree) (now dropped)) × Next (tables (now text) (now tokens) (now shapes) (now states)) p × Holding p × WordIf what (tables (now text) (now tokens) (now shapes) (now states)) p ⌝ }
+    ensures { λ r. ⌜ Opening (tables (now (text .entry)) (now (tokens .entry)) (now (shapes .entry)) (now (states .entry))) 1 (λ n inner. spec.argument (flat n) (sourceOf (tables (now (text .entry)) (now (tokens .entry)) (now (shapes .entry)) (now (states .entry)))) inner (pieceFor what)) p (buffers (now (tree .entry)) (now (dropped .entry))) r (buffers (now (tree .exit)) (now (dropped .exit))) ⌝ }
+{
+    let a = ignore_holding_trivia(dropped, p);
+    let r = a.start_node(tree, SyntaxKind::CLAUSE_ARGUMENT);
+    let Step::Went(b) = r else {
+        return r;
+    };
+    let q = piece(text, tokens, shapes, states, tree, dropped, b, what);
+    let Step::Went(c) = q else {
+        return q;
+    };
+    let o = c.finish_node(tree, SyntaxKind::CLAUSE_ARGUMENT, p.builder.frame());
+    let Step::Went(d) = o else {
+        return o;
+    };
+    Step::Went(d.holding_none())
+}
+
+// Arguments, until the matcher or the kind of token ends them. A refused character ends both loops.
+fn arguments(
+    text: &[u8],
+    tokens: &[u32],
+    shapes: &[u32],
+    states: &[u32],
+    tree: &mut [u32],
+    dropped: &mut [u32],
+    p: Parser,
+    m: ArgMatcher,
+) -> Step
+    requires { ⌜ Ready (tables (now text) (now tokens) (now shapes) (now states)) p (buffers (now tree) (now dropped)) × Holding p ⌝ }
+    ensures { λ r. ⌜ Opening (tables (now (text .entry)) (now (tokens .entry)) (now (shapes .entry)) (now (states .entry))) 0 (λ n inner. allArguments (tables (now (text .entry)) (now (tokens .entry)) (now (shapes .entry)) (now (states .entry))) (matcherOf m) n inner) p (buffers (now (tree .entry)) (now (dropped .entry))) r (buffers (now (tree .exit)) (now (dropped .exit))) ⌝ }
+{
+    let mut now = p;
+    let mut matcher = m;
+    'arguments: loop {
+        let peeked = now.lexer.peek(tokens);
+        let Peeked::Kind(kind) = peeked else {
+            break;
+        };
+        if kind == Token::WORD {
+            let whole = now.lexer.peek_text(text, tokens);
+            let mut word = &whole[0..];
+            while 0 < word.len() {
+                let tried = matcher.try_match(states, Argument::Term);
+                let Tried::Accepted(next) = tried else {
+                    break 'arguments;
+                };
+                let size = char_len(word);
+                let r = character(tokens, tree, dropped, now, word);
+                let Step::Went(q) = r else {
+                    return r;
+                };
+                now = q;
+                matcher = next;
+                word = &word[size..];
+            }
+        } else {
+            let list = now.list;
+            let scope = list.scope;
+            let choice = choose(states, scope, matcher, kind);
+            match choice {
+                Choice::Ends => {
+                    break;
+                }
+                Choice::Holds => {
+                    now = hold_trivia(now);
+                }
+                Choice::Takes(what, next) => {
+                    let o = argument(text, tokens, shapes, states, tree, dropped, now, what);
+                    let Step::Went(q) = o else {
+                        return o;
+                    };
+                    now = q;
+                    matcher = next;
+                }
+            }
+        }
+    }
+    Step::Went(now)
+}
+
+// Last is cleared first and saved second, so it is empty afterwards.
+fn match_arguments(
+    text: &[u8],
+    tokens: &[u32],
+    shapes: &[u32],
+    states: &[u32],
+    tree: &mut [u32],
+    dropped: &mut [u32],
+    p: Parser,
+    m: ArgMatcher,
+) -> Step
+    requires { ⌜ Ready (tables (now text) (now tokens) (now shapes) (now states)) p (buffers (now tree) (now dropped)) ⌝ }
+    ensures { λ r. ⌜ Opening (tables (now (text .entry)) (now (tokens .entry)) (now (shapes .entry)) (now (states .entry))) 0 (λ n inner. spec.matchArguments (flat n) (sourceOf (tables (now (text .entry)) (now (tokens .entry)) (now (shapes .entry)) (now (states .entry)))) inner (matcherOf m)) p (buffers (now (tree .entry)) (now (dropped .entry))) r (buffers (now (tree .exit)) (now (dropped .exit))) ⌝ }
+{
+    let list = p.list;
+    let start = list.start;
+    let a = p.with_marks(Mark::Nothing, Mark::Nothing).holding_none();
+    let r = arguments(text, tokens, shapes, states, tree, dropped, a, m);
+    let Step::Went(q) = r else {
+        return r;
+    };
+    Step::Went(q.with_marks(start, Mark::Nothing))
+}
+
+// All that a greedy command takes, in one node.
+fn greedy_rest(
+    text: &[u8],
+    tokens: &[u32],
+    shapes: &[u32],
+    states: &[u32],
+    tree: &mut [u32],
+    dropped: &mut [u32],
+    p: Parser,
+) -> Step
+    requires { ⌜ Ready (tables (now text) (now tokens) (now shapes) (now states)) p (buffers (now tree) (now dropped)) ⌝ }
+    ensures { λ r. ⌜ Opening (tables (now (text .entry)) (now (tokens .entry)) (now (shapes .entry)) (now (states .entry))) 0 (λ n inner. spec.greedyArgument (flat n) (sourceOf (tables (now (text .entry)) (now (tokens .entry)) (now (shapes .entry)) (now (states .entry)))) inner) p (buffers (now (tree .entry)) (now (dropped .entry))) r (buffers (now (tree .exit)) (now (dropped .exit))) ⌝ }
+{
+    let list = p.list;
+    let start = list.start;
+    let r = p.start_node(tree, SyntaxKind::CLAUSE_ARGUMENT);
+    let Step::Went(a) = r else {
+        return r;
+    };
+    let b = new_marks(a);
+    let q = items(text, tokens, shapes, states, tree, dropped, b, true);
+    let Step::Went(c) = q else {
+        return q;
+    };
+    let d = c.with_marks(start, Mark::Nothing);
+    d.finish_node(tree, SyntaxKind::CLAUSE_ARGUMENT, p.builder.frame())
+}
+
+// A greedy command, around what stands from a mark on if there is one.
+//   a\o b   Cmd[Arg[Text a] \o Arg[..]]
+fn greedy_command(
+    text: &[u8],
+    tokens: &[u32],
+    shapes: &[u32],
+    states: &[u32],
+    tree: &mut [u32],
+    dropped: &mut [u32],
+    p: Parser,
+    at: Mark,
+) -> Step
+    requires { ⌜ Ready (tables (now text) (now tokens) (now shapes) (now states)) p (buffers (now tree) (now dropped)) × Next (tables (now text) (now tokens) (now shapes) (now states)) p × MarkOk at (p .builder) ⌝ }
+    ensures { λ r. ⌜ Opening (tables (now (text .entry)) (now (tokens .entry)) (now (shapes .entry)) (now (states .entry))) 1 (λ n inner. greedyCommand (tables (now (text .entry)) (now (tokens .entry)) (now (shapes .entry)) (now (states .entry))) (markOf at) n inner) p (buffers (now (tree .entry)) (now (dropped .entry))) r (buffers (now (tree .exit)) (now (dropped .exit))) ⌝ }
+{
+    let r = start_command_at(tree, p, at);
+    let Step::Went(a) = r else {
+        return r;
+    };
+    let q = eat(tokens, tree, a);
+    let Step::Went(b) = q else {
+        return q;
+    };
+    let o = greedy_rest(text, tokens, shapes, states, tree, dropped, b);
+    let Step::Went(c) = o else {
+        return o;
+    };
+    c.finish_node(tree, SyntaxKind::ITEM_CMD, p.builder.frame())
+}
+
+// A command whose arguments a matcher takes; what is left held follows its node.
+//   \f12   Cmd[\f Arg[1] Arg[2]]
+fn matched(
+    text: &[u8],
+    tokens: &[u32],
+    shapes: &[u32],
+    states: &[u32],
+    tree: &mut [u32],
+    dropped: &mut [u32],
+    p: Parser,
+    m: ArgMatcher,
+) -> Step
+    requires { ⌜ Ready (tables (now text) (now tokens) (now shapes) (now states)) p (buffers (now tree) (now dropped)) × Next (tables (now text) (now tokens) (now shapes) (now states)) p ⌝ }
+    ensures { λ r. ⌜ Opening (tables (now (text .entry)) (now (tokens .entry)) (now (shapes .entry)) (now (states .entry))) 1 (λ n inner. matchedCommand (tables (now (text .entry)) (now (tokens .entry)) (now (shapes .entry)) (now (states .entry))) (matcherOf m) n inner) p (buffers (now (tree .entry)) (now (dropped .entry))) r (buffers (now (tree .exit)) (now (dropped .exit))) ⌝ }
+{
+    let r = p.start_node(tree, SyntaxKind::ITEM_CMD);
+    let Step::Went(a) = r else {
+        return r;
+    };
+    let q = eat(tokens, tree, a);
+    let Step::Went(b) = q else {
+        return q;
+    };
+    let o = match_arguments(text, tokens, shapes, states, tree, dropped, b, m);
+    let Step::Went(c) = o else {
+        return o;
+    };
+    let n = c.finish_node(tree, SyntaxKind::ITEM_CMD, p.builder.frame());
+    let Step::Went(d) = n else {
+        return n;
+    };
+    extract_holding_trivia(tokens, tree, d)
+}
+
+// A command by its shape.
+fn command(
+    text: &[u8],
+    tokens: &[u32],
+    shapes: &[u32],
+    states: &[u32],
+    tree: &mut [u32],
+    dropped: &mut [u32],
+    p: Parser,
+) -> Step
+    requires { ⌜ Ready (tables (now text) (now tokens) (now shapes) (now states)) p (buffers (now tree) (now dropped)) × Next (tables (now text) (now tokens) (now shapes) (now states)) p ⌝ }
+    ensures { λ r. ⌜ Opening (tables (now (text .entry)) (now (tokens .entry)) (now (shapes .entry)) (now (states .entry))) 1 (λ n inner. spec.commandOf (flat n) (sourceOf (tables (now (text .entry)) (now (tokens .entry)) (now (shapes .entry)) (now (states .entry)))) inner (shapeIn (tables (now (text .entry)) (now (tokens .entry)) (now (shapes .entry)) (now (states .entry))) classCommand p)) p (buffers (now (tree .entry)) (now (dropped .entry))) r (buffers (now (tree .exit)) (now (dropped .exit))) ⌝ }
+{
+    let shape = Shape::of_token(tokens, shapes, p.lexer.token).of_class(Class::COMMAND);
+    if shape.name_only() {
+        return one_in(tokens, tree, p, SyntaxKind::ITEM_CMD);
+    }
+    let list = p.list;
+    let start = list.start;
+    let last = list.last;
+    if shape.form == Form::LEFT1 {
+        return left1_command(tokens, tree, p);
+    }
+    if shape.form == Form::INFIX_GREEDY {
+        return greedy_command(
+            text,
+            tokens,
+            shapes,
+            states,
+            tree,
+            dropped,
+            p.with_marks(Mark::Nothing, last),
+            start,
+        );
+    }
+    let matcher = shape.matcher();
+    if matcher.is_greedy() {
+        return greedy_command(
+            text,
+            tokens,
+            shapes,
+            states,
+            tree,
+            dropped,
+            p,
+            Mark::Nothing,
+        );
+    }
+    matched(text, tokens, shapes, states, tree, dropped, p, matcher)
+}
+
+// The arguments of a \\begin.
+fn begin_arguments(
+    text: &[u8],
+    tokens: &[u32],
+    shapes: &[u32],
+    states: &[u32],
+    tree: &mut [u32],
+    dropped: &mut [u32],
+    p: Parser,
+    shape: Shape,
+) -> Step
+    requires { ⌜ Ready (tables (now text) (now tokens) (now shapes) (now states)) p (buffers (now tree) (now dropped)) ⌝ }
+    ensures { λ r. ⌜ Opening (tables (now (text .entry)) (now (tokens .entry)) (now (shapes .entry)) (now (states .entry))) 0 (λ n inner. spec.environmentArguments (flat n) (sourceOf (tables (now (text .entry)) (now (tokens .entry)) (now (shapes .entry)) (now (states .entry)))) inner (shapeFor shape)) p (buffers (now (tree .entry)) (now (dropped .entry))) r (buffers (now (tree .exit)) (now (dropped .exit))) ⌝ }
+{
+    if shape.name_only() {
+        return Step::Went(p.holding_none());
+    }
+    let matcher = shape.matcher();
+    if matcher.is_greedy() {
+        return Step::Refused(Refusal::GREEDY_ENVIRONMENT, p.lexer.token);
+    }
+    match_arguments(text, tokens, shapes, states, tree, dropped, p, matcher)
+}
+
+// An environment's name and its arguments.
+fn begin(
+    text: &[u8],
+    tokens: &[u32],
+    shapes: &[u32],
+    states: &[u32],
+    tree: &mut [u32],
+    dropped: &mut [u32],
+    p: Parser,
+) -> Step
+    requires { ⌜ Ready (tables (now text) (now tokens) (now shapes) (now states)) p (buffers (now tree) (now dropped)) × Next (tables (now text) (now tokens) (now shapes) (now states)) p ⌝ }
+    ensures { λ r. ⌜ Opening (tables (now (text .entry)) (now (tokens .entry)) (now (shapes .entry)) (now (states .entry))) 1 (λ n inner. spec.beginClause (flat n) (sourceOf (tables (now (text .entry)) (now (tokens .entry)) (now (shapes .entry)) (now (states .entry)))) inner) p (buffers (now (tree .entry)) (now (dropped .entry))) r (buffers (now (tree .exit)) (now (dropped .exit))) ⌝ }
+{
+    let shape = Shape::of_token(tokens, shapes, p.lexer.token).of_class(Class::ENVIRONMENT);
+    let r = p.start_node(tree, SyntaxKind::ITEM_BEGIN);
+    let Step::Went(a) = r else {
+        return r;
+    };
+    let q = eat(tokens, tree, a);
+    let Step::Went(b) = q else {
+        return q;
+    };
+    let o = begin_arguments(text, tokens, shapes, states, tree, dropped, b, shape);
+    let Step::Went(c) = o else {
+        return o;
+    };
+    let n = c.finish_node(tree, SyntaxKind::ITEM_BEGIN, p.builder.frame());
+    let Step::Went(d) = n else {
+        return n;
+    };
+    extract_holding_trivia(tokens, tree, d)
+}
+
+//   \begin{m}a\end{m}   Env[Begin[m] Text[a] End[m]]
+fn environment(
+    text: &[u8],
+    tokens: &[u32],
+    shapes: &[u32],
+    states: &[u32],
+    tree: &mut [u32],
+    dropped: &mut [u32],
+    p: Parser,
+) -> Step
+    requires { ⌜ Ready (tables (now text) (now tokens) (now shapes) (now states)) p (buffers (now tree) (now dropped)) × Next (tables (now text) (now tokens) (now shapes) (now states)) p ⌝ }
+    ensures { λ r. ⌜ Opening (tables (now (text .entry)) (now (tokens .entry)) (now (shapes .entry)) (now (states .entry))) 1 (λ n inner. spec.environmentItem (flat n) (sourceOf (tables (now (text .entry)) (now (tokens .entry)) (now (shapes .entry)) (now (states .entry)))) inner) p (buffers (now (tree .entry)) (now (dropped .entry))) r (buffers (now (tree .exit)) (now (dropped .exit))) ⌝ }
+{
+    let r = p.start_node(tree, SyntaxKind::ITEM_ENV);
+    let Step::Went(a) = r else {
+        return r;
+    };
+    let q = begin(text, tokens, shapes, states, tree, dropped, a);
+    let Step::Went(b) = q else {
+        return q;
+    };
+    let o = item_list(
+        text,
+        tokens,
+        shapes,
+        states,
+        tree,
+        dropped,
+        b,
+        ParseScope::Environment,
+    );
+    let Step::Went(c) = o else {
+        return o;
+    };
+    let n = end_clause(tokens, tree, c);
+    let Step::Went(d) = n else {
+        return n;
+    };
+    d.finish_node(tree, SyntaxKind::ITEM_ENV, p.builder.frame())
+}
+
+//   \left(a\right)   LR[ClauseLR[\left (] Text[a] ClauseLR[\right )]]
+fn item_lr(
+    text: &[u8],
+    tokens: &[u32],
+    shapes: &[u32],
+    states: &[u32],
+    tree: &mut [u32],
+    dropped: &mut [u32],
+    p: Parser,
+) -> Step
+    requires { ⌜ Ready (tables (now text) (now tokens) (now shapes) (now states)) p (buffers (now tree) (now dropped)) × Next (tables (now text) (now tokens) (now shapes) (now states)) p ⌝ }
+    ensures { λ r. ⌜ Opening (tables (now (text .entry)) (now (tokens .entry)) (now (shapes .entry)) (now (states .entry))) 1 (λ n inner. spec.itemLr (flat n) (sourceOf (tables (now (text .entry)) (now (tokens .entry)) (now (shapes .entry)) (now (states .entry)))) inner) p (buffers (now (tree .entry)) (now (dropped .entry))) r (buffers (now (tree .exit)) (now (dropped .exit))) ⌝ }
+{
+    let r = p.start_node(tree, SyntaxKind::ITEM_LR);
+    let Step::Went(a) = r else {
+        return r;
+    };
+    let q = clause_lr(text, tokens, tree, a);
+    let Step::Went(b) = q else {
+        return q;
+    };
+    let o = item_list(
+        text,
+        tokens,
+        shapes,
+        states,
+        tree,
+        dropped,
+        b,
+        ParseScope::LR,
+    );
+    let Step::Went(c) = o else {
+        return o;
+    };
+    let n = right_clause(text, tokens, tree, c);
+    let Step::Went(d) = n else {
+        return n;
+    };
+    d.finish_node(tree, SyntaxKind::ITEM_LR, p.builder.frame())
+}
+
+// What follows `_` or `^`. The scope is not asked, so a `}` is a script too.
+fn script(
+    text: &[u8],
+    tokens: &[u32],
+    shapes: &[u32],
+    states: &[u32],
+    tree: &mut [u32],
+    dropped: &mut [u32],
+    p: Parser,
+    has_script: bool,
+) -> Step
+    requires { ⌜ Ready (tables (now text) (now tokens) (now shapes) (now states)) p (buffers (now tree) (now dropped)) ⌝ }
+    ensures { λ r. ⌜ Within (tables (now (text .entry)) (now (tokens .entry)) (now (shapes .entry)) (now (states .entry))) 0 (λ n inner. spec.script (flat n) (sourceOf (tables (now (text .entry)) (now (tokens .entry)) (now (shapes .entry)) (now (states .entry)))) inner «has_script») p (buffers (now (tree .entry)) (now (dropped .entry))) r (buffers (now (tree .exit)) (now (dropped .exit))) ⌝ }
+{
+    if !has_script {
+        return Step::Went(p);
+    }
+    let r = trivia(tokens, tree, p);
+    let Step::Went(a) = r else {
+        return r;
+    };
+    if tokens.len() / Limits::TOKEN_WIDTH <= a.lexer.token {
+        return Step::Went(a);
+    }
+    content(text, tokens, shapes, states, tree, dropped, a, true)
+}
+
+//   a_b   Attach[Arg[Text a] _ b]
+fn attachment(
+    text: &[u8],
+    tokens: &[u32],
+    shapes: &[u32],
+    states: &[u32],
+    tree: &mut [u32],
+    dropped: &mut [u32],
+    p: Parser,
+    has_script: bool,
+    at: Mark,
+) -> Step
+    requires { ⌜ Ready (tables (now text) (now tokens) (now shapes) (now states)) p (buffers (now tree) (now dropped)) × Next (tables (now text) (now tokens) (now shapes) (now states)) p × MarkOk at (p .builder) ⌝ }
+    ensures { λ r. ⌜ Opening (tables (now (text .entry)) (now (tokens .entry)) (now (shapes .entry)) (now (states .entry))) 1 (λ n inner. attachmentAt (tables (now (text .entry)) (now (tokens .entry)) (now (shapes .entry)) (now (states .entry))) «has_script» (markOf at) n inner) p (buffers (now (tree .entry)) (now (dropped .entry))) r (buffers (now (tree .exit)) (now (dropped .exit))) ⌝ }
+{
+    let r = start_attach_at(tree, p, at);
+    let Step::Went(a) = r else {
+        return r;
+    };
+    let q = eat(tokens, tree, a);
+    let Step::Went(b) = q else {
+        return q;
+    };
+    let o = script(text, tokens, shapes, states, tree, dropped, b, has_script);
+    let Step::Went(c) = o else {
+        return o;
+    };
+    c.finish_node(tree, SyntaxKind::ITEM_ATTACH_COMPONENT, p.builder.frame())
+}
+
+// Without a last mark `'` is a plain leaf, and `_b` is Attach[_ b].
+fn attach_component(
+    text: &[u8],
+    tokens: &[u32],
+    shapes: &[u32],
+    states: &[u32],
+    tree: &mut [u32],
+    dropped: &mut [u32],
+    p: Parser,
+    has_script: bool,
+) -> Step
+    requires { ⌜ Ready (tables (now text) (now tokens) (now shapes) (now states)) p (buffers (now tree) (now dropped)) × Next (tables (now text) (now tokens) (now shapes) (now states)) p ⌝ }
+    ensures { λ r. ⌜ Opening (tables (now (text .entry)) (now (tokens .entry)) (now (shapes .entry)) (now (states .entry))) 1 (λ n inner. spec.attachComponent (flat n) (sourceOf (tables (now (text .entry)) (now (tokens .entry)) (now (shapes .entry)) (now (states .entry)))) inner «has_script») p (buffers (now (tree .entry)) (now (dropped .entry))) r (buffers (now (tree .exit)) (now (dropped .exit))) ⌝ }
+{
+    let list = p.list;
+    let last = list.last;
+    if !has_script {
+        if let Mark::Nothing = last {
+            return eat(tokens, tree, p);
+        }
+    }
+    attachment(
+        text,
+        tokens,
+        shapes,
+        states,
+        tree,
+        dropped,
+        p,
+        has_script,
+        last,
+    )
+}
+
+// Any item; `single` says that one character of a Word is enough.
+fn content(
+    text: &[u8],
+    tokens: &[u32],
+    shapes: &[u32],
+    states: &[u32],
+    tree: &mut [u32],
+    dropped: &mut [u32],
+    p: Parser,
+    single: bool,
+) -> Step
+    requires { ⌜ Ready (tables (now text) (now tokens) (now shapes) (now states)) p (buffers (now tree) (now dropped)) × Next (tables (now text) (now tokens) (now shapes) (now states)) p ⌝ }
+    ensures { λ r. ⌜ Opening (tables (now (text .entry)) (now (tokens .entry)) (now (shapes .entry)) (now (states .entry))) 1 (λ n inner. spec.content (flat n) (sourceOf (tables (now (text .entry)) (now (tokens .entry)) (now (shapes .entry)) (now (states .entry)))) inner single) p (buffers (now (tree .entry)) (now (dropped .entry))) r (buffers (now (tree .exit)) (now (dropped .exit))) ⌝ }
+{
+    let token = p.lexer.token;
+    let kind = cell(tokens, token, Column::KIND);
+    let item = item_of(kind);
+    match item {
+        Item::Plain => eat(tokens, tree, p),
+        Item::Error => one_in(tokens, tree, p, SyntaxKind::TOKEN_ERROR),
+        Item::Word => word(text, tokens, tree, p, single),
+        Item::Comma => routines::text(tokens, tree, p),
+        Item::Group(scope) => item_group(text, tokens, shapes, states, tree, dropped, p, scope),
+        Item::Attachment(has_script) => attach_component(
+            text,
+            tokens,
+            shapes,
+            states,
+            tree,
+            dropped,
+            p,
+            has_script,
+        ),
+        Item::Command => command(text, tokens, shapes, states, tree, dropped, p),
+        Item::Environment => environment(text, tokens, shapes, states, tree, dropped, p),
+        Item::LeftRight => item_lr(text, tokens, shapes, states, tree, dropped, p),
+        Item::Skipped(node) => skipped_body(tokens, tree, dropped, p, node),
+    }
+}

@@ -1,0 +1,281 @@
+-- The needs of `content`: each arm hands on to one routine, whose rule is the arm's.
+use Prim.Native.Nat.{ℕ}
+use borrow.Author.Needs.{needs}
+use mathlib.Core.List.{List, [], _∷_}
+use mathlib.Core.Path.{_≡_, refl, sym, ap, _∙_}
+use native.Mathlib.Omega.{arith}
+use lib.ListN.{drop, take}
+use Rattle.rules.specs.Checks.{Tables, sourceOf}
+use Rattle.rules.specs.Flat.{flat}
+use Rattle.rules.specs.Items.{groupKind, closer, ofClass, classEnvironment, classCommand}
+use Rattle.rules.specs.Position as position
+use Rattle.rules.specs.Position.{steps}
+use Rattle.rules.specs.Reading as spec
+use Rattle.rules.specs.Routines as routine
+use Rattle.rules.specs.Scope as scopes
+use Rattle.rules.specs.SyntaxKind as kinds
+use Rattle.syntax.specs.ParseScope.{scopeOf}
+use Rattle.routines.specs.Stands.{Buffers, markOf, posOf}
+use Rattle.routines.specs.declared.state.Parser.{Parser}
+use Rattle.routines.proofs.Walk.{Rule, line, Walk, begins, enters, passes, leaves, stops, ends, hands-on, ran, opens, closes}
+use Rattle.parser.specs.Member.{shapeIn, tables, buffers, innerAt, endOf, rightOf, greedyCommand, attachmentAt, startAttachAt, matchedCommand}
+use Rattle.arg_match.specs.Answers.{matcherOf}
+use Rattle.items.specs.Items.{shapeFor}
+use Rattle.parser.proofs.Cycle.{below, runs, opened, leaves-node, runs-as}
+use Rattle.parser.proofs.Entry.{somehow}
+use mathlib.Core.Bool.{true, false}
+use mathlib.Core.Option.{none, some}
+use Rattle.parser.proofs.Entry.{mark-here}
+use Rattle.rules.specs.Outcome.{went}
+use Rattle.rules.specs.Flat as flats
+use Rattle.routines.specs.Stands.{listOf}
+use Rattle.routines.proofs.Building.{mark-more}
+use Rattle.routines.proofs.HeldLaws.{holding-none}
+use Rattle.routines.specs.declared.state.Mark.the-variants.{Nothing, At}
+use Rattle.routines.proofs.Walk.{arrives}
+use Rattle.parser.specs.Member.{listItems, allArguments, listed}
+use Rattle.parser.proofs.Cycle.{relists, remarks, unholds}
+use Rattle.syntax.specs.declared.parse_scope.ParseScope.{ParseScope}
+use mathlib.Core.Bool.{Bool, cond, false≢true}
+use lib.Dec.{eqb}
+use borrow.Author.Tests.{eqb-true}
+use Rattle.rules.specs.Items as rules
+use Rattle.rules.specs.Scope.{among}
+use Rattle.rules.specs.Token as tokens
+use Prim.Native.Nat.{_<_}
+use Rattle.lexer.proofs.Laws.{peek-some}
+use Rattle.rules.specs.Checks.{shapeOf}
+use Rattle.rules.specs.Items.{itemOf}
+use Rattle.rules.specs.Tables.{tokenCount, kindAt}
+use Rattle.items.specs.Items.{itemFor}
+use Rattle.items.specs.declared.item.Item.{Item}
+use Rattle.items.specs.declared.item.Item.the-variants.{Plain, Error, Word, Comma, Group, Attachment, Command, Environment, LeftRight, Skipped}
+use Rattle.parser.proofs.Cycle.{ran-runs}
+use Rattle.parser.proofs.attach_component.Reads as attach-component
+use Rattle.lexer.proofs.cell.Reads as cell-reads
+use Rattle.parser.proofs.command.Reads as command
+use Rattle.routines.proofs.eat.Reads as eat-reads
+use Rattle.parser.proofs.environment.Reads as environment
+use Rattle.parser.proofs.item_group.Reads as item-group
+use Rattle.parser.proofs.item_lr.Reads as item-lr
+use Rattle.items.proofs.item_of.Reads as item-of-reads
+use Rattle.routines.proofs.one_in.Reads as one-in-reads
+use Rattle.routines.proofs.skipped_body.Reads as skipped-body-reads
+use Rattle.routines.proofs.text.Reads as text-reads
+use Rattle.parser.proofs.clauses.word.Reads as word-reads
+use Rattle.parser.proofs.content.Reads as content
+use Rattle.parser.proofs.+argument+arguments+attach_component+attachment+begin+begin_arguments+command+content+environment+greedy_command+greedy_rest+item_group+item_list+item_lr+items+match_arguments+matched+piece+script.Lts-content as content-lts
+use Rattle.parser.proofs.+argument+arguments+attach_component+attachment+begin+begin_arguments+command+content+environment+greedy_command+greedy_rest+item_group+item_list+item_lr+items+match_arguments+matched+piece+script.Proof.Measures.{attach-component-below, command-below, environment-below, item-group-below, item-lr-below, content-at}
+
+-- what each callee asks and gives, at the measure t
+abbrev pub content-claims : ℕ → content-lts.Claims
+content-claims t = (cell-reads.Asked, cell-reads.Learnt, item-of-reads.Asked, item-of-reads.Learnt, eat-reads.Asked, eat-reads.Learnt, one-in-reads.Asked, one-in-reads.Learnt, word-reads.Asked, word-reads.Learnt, text-reads.Asked, text-reads.Learnt, item-group-below t, item-group.Post, attach-component-below t, attach-component.Post, command-below t, command.Post, environment-below t, environment.Post, item-lr-below t, item-lr.Post, skipped-body-reads.Asked, skipped-body-reads.Learnt)
+
+abbrev Start : ℕ → Type 0
+Start t = content-lts.Start (content-claims t) (content-at t) content.Post
+
+abbrev T : {t : ℕ} → Start t → Tables
+T b = tables (b .args .text .now) (b .args .tokens .now) (b .args .shapes .now) (b .args .states .now)
+
+abbrev M : {t : ℕ} → Start t → Buffers
+M b = buffers (b .args .tree .now) (b .args .dropped .now)
+
+-- the kind of an item that is a Word: none of the rule's other questions leads there
+abbrev is-word-item : rules.Item → Bool
+is-word-item rules.plain = false
+is-word-item rules.error = false
+is-word-item rules.word = true
+is-word-item rules.comma = false
+is-word-item (rules.group scope) = false
+is-word-item (rules.attachment script) = false
+is-word-item rules.command = false
+is-word-item rules.environment = false
+is-word-item rules.leftRight = false
+is-word-item (rules.skipped node) = false
+
+asked-for-a-word : (curly apostrophe script closing word comma dollar math generic environment block typst left : Bool) → is-word-item (cond curly (rules.group scopes.CurlyItem) (cond apostrophe (rules.attachment false) (cond script (rules.attachment true) (cond closing (rules.error) (cond word (rules.word) (cond comma (rules.comma) (cond dollar (rules.group scopes.DollarFormula) (cond math (rules.group scopes.CmdFormula) (cond generic (rules.command) (cond environment (rules.environment) (cond block (rules.skipped kinds.ItemBlockComment) (cond typst (rules.skipped kinds.ItemTypstCode) (cond left (rules.leftRight) rules.plain))))))))))))) ≡ true → word ≡ true
+asked-for-a-word true apostrophe script closing word comma dollar math generic environment block typst left e = absurd (false≢true e)
+asked-for-a-word false true script closing word comma dollar math generic environment block typst left e = absurd (false≢true e)
+asked-for-a-word false false true closing word comma dollar math generic environment block typst left e = absurd (false≢true e)
+asked-for-a-word false false false true word comma dollar math generic environment block typst left e = absurd (false≢true e)
+asked-for-a-word false false false false true comma dollar math generic environment block typst left e = refl
+asked-for-a-word false false false false false true dollar math generic environment block typst left e = absurd (false≢true e)
+asked-for-a-word false false false false false false true math generic environment block typst left e = absurd (false≢true e)
+asked-for-a-word false false false false false false false true generic environment block typst left e = absurd (false≢true e)
+asked-for-a-word false false false false false false false false true environment block typst left e = absurd (false≢true e)
+asked-for-a-word false false false false false false false false false true block typst left e = absurd (false≢true e)
+asked-for-a-word false false false false false false false false false false true typst left e = absurd (false≢true e)
+asked-for-a-word false false false false false false false false false false false true left e = absurd (false≢true e)
+asked-for-a-word false false false false false false false false false false false false true e = absurd (false≢true e)
+asked-for-a-word false false false false false false false false false false false false false e = absurd (false≢true e)
+
+word-kind : (kind : ℕ) → is-word-item (itemOf kind) ≡ true → kind ≡ tokens.Word
+word-kind kind e =
+    eqb-true kind tokens.Word
+    (asked-for-a-word (eqb kind tokens.LeftCurly) (eqb kind tokens.Apostrophe) (among kind (tokens.Underscore ∷ tokens.Caret ∷ [])) (among kind (tokens.RightCurly ∷ tokens.MacroArg ∷ tokens.EndEnvironment ∷ tokens.EndMath ∷ [])) (eqb kind tokens.Word) (eqb kind tokens.Comma) (eqb kind tokens.Dollar) (eqb kind tokens.BeginMath) (among kind (tokens.Generic ∷ tokens.If ∷ tokens.Else ∷ tokens.EndIf ∷ tokens.Right ∷ [])) (eqb kind tokens.BeginEnvironment) (eqb kind tokens.IfFalse) (eqb kind tokens.IfTypst) (eqb kind tokens.Left) e)
+
+-- what the rule comes to, by the item that is next
+module _ (n : ℕ) (t : Tables) (inner : Bool → position.Rule (flat n)) (p : position.At (flat n)) (single : Bool) (item : Item) (there : p .lexer .token < tokenCount (t .tokens)) (is : itemFor item ≡ itemOf (kindAt (t .tokens) (p .lexer .token))) where
+  reads : spec.content (flat n) (sourceOf t) inner single p ≡ spec.readItem (flat n) (sourceOf t) inner single (itemFor item) p
+  unfolding spec.content
+  reads = rw (peek-some (t .tokens) (p .lexer) there, is)
+
+  is-plain : item ≡ Plain → spec.content (flat n) (sourceOf t) inner single p ≡ routine.eat (flat n) (sourceOf t) p
+  unfolding spec.readItem
+  is-plain e = reads ∙ ap (λ i. spec.readItem (flat n) (sourceOf t) inner single (itemFor i) p) e
+
+  is-error : item ≡ Error → spec.content (flat n) (sourceOf t) inner single p ≡ routine.oneIn (flat n) (sourceOf t) kinds.TokenError p
+  unfolding spec.readItem
+  is-error e = reads ∙ ap (λ i. spec.readItem (flat n) (sourceOf t) inner single (itemFor i) p) e
+
+  is-comma : item ≡ Comma → spec.content (flat n) (sourceOf t) inner single p ≡ routine.text (flat n) (sourceOf t) p
+  unfolding spec.readItem
+  is-comma e = reads ∙ ap (λ i. spec.readItem (flat n) (sourceOf t) inner single (itemFor i) p) e
+
+  is-group : (scope : ParseScope) → item ≡ (Group scope) → spec.content (flat n) (sourceOf t) inner single p ≡ spec.itemGroup (flat n) (sourceOf t) inner (scopeOf scope) p
+  unfolding spec.readItem
+  is-group scope e = reads ∙ ap (λ i. spec.readItem (flat n) (sourceOf t) inner single (itemFor i) p) e
+
+  is-attachment : (script : Bool) → item ≡ (Attachment script) → spec.content (flat n) (sourceOf t) inner single p ≡ spec.attachComponent (flat n) (sourceOf t) inner script p
+  unfolding spec.readItem
+  is-attachment script e = reads ∙ ap (λ i. spec.readItem (flat n) (sourceOf t) inner single (itemFor i) p) e
+
+  is-command : item ≡ Command → spec.content (flat n) (sourceOf t) inner single p ≡ spec.commandOf (flat n) (sourceOf t) inner (ofClass classCommand (shapeOf t (p .lexer .token))) p
+  unfolding spec.readItem
+  is-command e = reads ∙ ap (λ i. spec.readItem (flat n) (sourceOf t) inner single (itemFor i) p) e
+
+  is-environment : item ≡ Environment → spec.content (flat n) (sourceOf t) inner single p ≡ spec.environmentItem (flat n) (sourceOf t) inner p
+  unfolding spec.readItem
+  is-environment e = reads ∙ ap (λ i. spec.readItem (flat n) (sourceOf t) inner single (itemFor i) p) e
+
+  is-left-right : item ≡ LeftRight → spec.content (flat n) (sourceOf t) inner single p ≡ spec.itemLr (flat n) (sourceOf t) inner p
+  unfolding spec.readItem
+  is-left-right e = reads ∙ ap (λ i. spec.readItem (flat n) (sourceOf t) inner single (itemFor i) p) e
+
+  is-word : item ≡ Word → spec.content (flat n) (sourceOf t) inner single p ≡ cond single (routine.singleChar (flat n) (sourceOf t) p) (routine.text (flat n) (sourceOf t) p)
+  unfolding spec.readItem
+  is-word e = reads ∙ ap (λ i. spec.readItem (flat n) (sourceOf t) inner single (itemFor i) p) e
+
+  is-skipped : (node : ℕ) → item ≡ (Skipped node) → spec.content (flat n) (sourceOf t) inner single p ≡ routine.skippedBody (flat n) (sourceOf t) node p
+  unfolding spec.readItem
+  is-skipped node e = reads ∙ ap (λ i. spec.readItem (flat n) (sourceOf t) inner single (itemFor i) p) e
+
+pub content-cell-requires : (t : ℕ) → content-lts.Need-cell-requires (content-claims t) (content-at t) content.Post
+content-cell-requires t c κs = (c .before .before .before .before .before .before .pre .1 .1, omega arith)
+
+pub content-item-of-requires : (t : ℕ) → content-lts.Need-item-of-requires (content-claims t) (content-at t) content.Post
+content-item-of-requires t c κs = search needs
+
+pub content-eat-requires : (t : ℕ) → content-lts.Need-eat-requires (content-claims t) (content-at t) content.Post
+content-eat-requires t c κs = (c .before .before .before .before .before .before .before .before .before .before .before .pre .1 .1, somehow refl (c .before .before .before .before .before .before .before .before .before .before .before .pre .1 .0))
+
+pub content-one-in-requires : (t : ℕ) → content-lts.Need-one-in-requires (content-claims t) (content-at t) content.Post
+content-one-in-requires t c κs = (c .before .before .before .before .before .before .before .before .before .before .before .pre .1 .1, somehow refl (c .before .before .before .before .before .before .before .before .before .before .before .pre .1 .0))
+
+pub content-word-requires : (t : ℕ) → content-lts.Need-word-requires (content-claims t) (content-at t) content.Post
+content-word-requires t c κs = let is = sym (c .before .before .before .item-of .ensures ∙ ap itemOf (c .before .before .before .before .cell .ensures)) ∙ ap itemFor (c .before .enum-told3 .given .1) in
+    (c .before .before .before .before .before .before .before .before .before .before .before .pre .1 .1, word-kind _ (ap is-word-item is), somehow (refl, refl) (c .before .before .before .before .before .before .before .before .before .before .before .pre .1 .0))
+
+pub content-text-requires : (t : ℕ) → content-lts.Need-text-requires (content-claims t) (content-at t) content.Post
+content-text-requires t c κs = (c .before .before .before .before .before .before .before .before .before .before .before .pre .1 .1, somehow refl (c .before .before .before .before .before .before .before .before .before .before .before .pre .1 .0))
+
+pub content-item-group-requires : (t : ℕ) → content-lts.Need-item-group-requires (content-claims t) (content-at t) content.Post
+content-item-group-requires t c κs = let measure = c .before .before .before .before .before .before .before .before .before .before .before .before .before .pre .0 in
+    (omega arith, (c .before .before .before .before .before .before .before .before .before .before .before .before .before .pre .1 .0, c .before .before .before .before .before .before .before .before .before .before .before .before .before .pre .1 .1))
+
+pub content-attach-component-requires : (t : ℕ) → content-lts.Need-attach-component-requires (content-claims t) (content-at t) content.Post
+content-attach-component-requires t c κs = let measure = c .before .before .before .before .before .before .before .before .before .before .before .before .before .pre .0 in
+    (omega arith, (c .before .before .before .before .before .before .before .before .before .before .before .before .before .pre .1 .0, c .before .before .before .before .before .before .before .before .before .before .before .before .before .pre .1 .1))
+
+pub content-command-requires : (t : ℕ) → content-lts.Need-command-requires (content-claims t) (content-at t) content.Post
+content-command-requires t c κs = let measure = c .before .before .before .before .before .before .before .before .before .before .before .before .pre .0 in
+    (omega arith, (c .before .before .before .before .before .before .before .before .before .before .before .before .pre .1 .0, c .before .before .before .before .before .before .before .before .before .before .before .before .pre .1 .1))
+
+pub content-environment-requires : (t : ℕ) → content-lts.Need-environment-requires (content-claims t) (content-at t) content.Post
+content-environment-requires t c κs = let measure = c .before .before .before .before .before .before .before .before .before .before .before .before .pre .0 in
+    (omega arith, (c .before .before .before .before .before .before .before .before .before .before .before .before .pre .1 .0, c .before .before .before .before .before .before .before .before .before .before .before .before .pre .1 .1))
+
+pub content-item-lr-requires : (t : ℕ) → content-lts.Need-item-lr-requires (content-claims t) (content-at t) content.Post
+content-item-lr-requires t c κs = let measure = c .before .before .before .before .before .before .before .before .before .before .before .before .pre .0 in
+    (omega arith, (c .before .before .before .before .before .before .before .before .before .before .before .before .pre .1 .0, c .before .before .before .before .before .before .before .before .before .before .before .before .pre .1 .1))
+
+pub content-skipped-body-requires : (t : ℕ) → content-lts.Need-skipped-body-requires (content-claims t) (content-at t) content.Post
+content-skipped-body-requires t c κs = (c .before .before .before .before .before .before .before .before .before .before .before .before .before .pre .1 .1, record { t = T (c .before .before .before .before .before .before .before .before .before .before .before .before .before); seen = refl; ready = c .before .before .before .before .before .before .before .before .before .before .before .before .before .pre .1 .0 })
+
+pub content-same-length : (t : ℕ) → content-lts.Need-same-length (content-claims t) (content-at t) content.Post
+content-same-length t c = c .before .before .eat .kept .1 .0
+
+pub content-returns : (t : ℕ) → content-lts.Need-returns (content-claims t) (content-at t) content.Post
+content-returns t c = runs-as (ran-runs refl (c .before .before .before .before .before .before .before .before .before .before .before .before .before .before .pre .1 .0) (c .before .before .eat .ensures (c .before .before .before .before .before .before .before .before .before .before .before .before .before .before .args .dropped .now))) (λ n d. is-plain n (T (c .before .before .before .before .before .before .before .before .before .before .before .before .before .before)) (innerAt (T (c .before .before .before .before .before .before .before .before .before .before .before .before .before .before)) n d) (posOf (c .before .before .before .before .before .before .before .before .before .before .before .before .before .before .args .p) (M (c .before .before .before .before .before .before .before .before .before .before .before .before .before .before))) (c .before .before .before .before .before .before .before .before .before .before .before .before .before .before .args .single) (c .before .before .before .before .before .before .item-of .result) (c .before .before .before .before .before .before .before .before .before .before .before .before .before .before .pre .1 .1) (c .before .before .before .before .before .before .item-of .ensures ∙ ap itemOf (c .before .before .before .before .before .before .before .cell .ensures)) (c .before .before .before .before .enum-told .given .1))
+
+pub content-same-length-2 : (t : ℕ) → content-lts.Need-same-length-2 (content-claims t) (content-at t) content.Post
+content-same-length-2 t c = c .before .before .one-in .kept .1 .0
+
+pub content-returns-2 : (t : ℕ) → content-lts.Need-returns-2 (content-claims t) (content-at t) content.Post
+content-returns-2 t c = runs-as (ran-runs refl (c .before .before .before .before .before .before .before .before .before .before .before .before .before .before .pre .1 .0) (c .before .before .one-in .ensures (c .before .before .before .before .before .before .before .before .before .before .before .before .before .before .args .dropped .now))) (λ n d. is-error n (T (c .before .before .before .before .before .before .before .before .before .before .before .before .before .before)) (innerAt (T (c .before .before .before .before .before .before .before .before .before .before .before .before .before .before)) n d) (posOf (c .before .before .before .before .before .before .before .before .before .before .before .before .before .before .args .p) (M (c .before .before .before .before .before .before .before .before .before .before .before .before .before .before))) (c .before .before .before .before .before .before .before .before .before .before .before .before .before .before .args .single) (c .before .before .before .before .before .before .item-of .result) (c .before .before .before .before .before .before .before .before .before .before .before .before .before .before .pre .1 .1) (c .before .before .before .before .before .before .item-of .ensures ∙ ap itemOf (c .before .before .before .before .before .before .before .cell .ensures)) (c .before .before .before .before .enum-told2 .given .1))
+
+pub content-same-length-3 : (t : ℕ) → content-lts.Need-same-length-3 (content-claims t) (content-at t) content.Post
+content-same-length-3 t c = c .before .before .word .kept .1 .1 .0
+
+pub content-returns-3 : (t : ℕ) → content-lts.Need-returns-3 (content-claims t) (content-at t) content.Post
+content-returns-3 t c = runs-as (ran-runs (refl, refl) (c .before .before .before .before .before .before .before .before .before .before .before .before .before .before .pre .1 .0) (c .before .before .word .ensures (c .before .before .before .before .before .before .before .before .before .before .before .before .before .before .args .dropped .now))) (λ n d. is-word n (T (c .before .before .before .before .before .before .before .before .before .before .before .before .before .before)) (innerAt (T (c .before .before .before .before .before .before .before .before .before .before .before .before .before .before)) n d) (posOf (c .before .before .before .before .before .before .before .before .before .before .before .before .before .before .args .p) (M (c .before .before .before .before .before .before .before .before .before .before .before .before .before .before))) (c .before .before .before .before .before .before .before .before .before .before .before .before .before .before .args .single) (c .before .before .before .before .before .before .item-of .result) (c .before .before .before .before .before .before .before .before .before .before .before .before .before .before .pre .1 .1) (c .before .before .before .before .before .before .item-of .ensures ∙ ap itemOf (c .before .before .before .before .before .before .before .cell .ensures)) (c .before .before .before .before .enum-told3 .given .1))
+
+pub content-same-length-4 : (t : ℕ) → content-lts.Need-same-length-4 (content-claims t) (content-at t) content.Post
+content-same-length-4 t c = c .before .before .text .kept .1 .0
+
+pub content-returns-4 : (t : ℕ) → content-lts.Need-returns-4 (content-claims t) (content-at t) content.Post
+content-returns-4 t c = runs-as (ran-runs refl (c .before .before .before .before .before .before .before .before .before .before .before .before .before .before .pre .1 .0) (c .before .before .text .ensures (c .before .before .before .before .before .before .before .before .before .before .before .before .before .before .args .dropped .now))) (λ n d. is-comma n (T (c .before .before .before .before .before .before .before .before .before .before .before .before .before .before)) (innerAt (T (c .before .before .before .before .before .before .before .before .before .before .before .before .before .before)) n d) (posOf (c .before .before .before .before .before .before .before .before .before .before .before .before .before .before .args .p) (M (c .before .before .before .before .before .before .before .before .before .before .before .before .before .before))) (c .before .before .before .before .before .before .before .before .before .before .before .before .before .before .args .single) (c .before .before .before .before .before .before .item-of .result) (c .before .before .before .before .before .before .before .before .before .before .before .before .before .before .pre .1 .1) (c .before .before .before .before .before .before .item-of .ensures ∙ ap itemOf (c .before .before .before .before .before .before .before .cell .ensures)) (c .before .before .before .before .enum-told4 .given .1))
+
+pub content-same-length-5 : (t : ℕ) → content-lts.Need-same-length-5 (content-claims t) (content-at t) content.Post
+content-same-length-5 t c = c .before .before .before .before .item-group .kept .1 .1 .1 .1 .0
+
+pub content-same-length-6 : (t : ℕ) → content-lts.Need-same-length-6 (content-claims t) (content-at t) content.Post
+content-same-length-6 t c = c .before .before .before .before .item-group .kept .1 .1 .1 .1 .1 .0
+
+pub content-returns-5 : (t : ℕ) → content-lts.Need-returns-5 (content-claims t) (content-at t) content.Post
+content-returns-5 t c = runs-as (c .before .before .before .before .item-group .ensures) (λ n d. is-group n (T (c .before .before .before .before .before .before .before .before .before .before .before .before .before .before .before .before .before .before)) (innerAt (T (c .before .before .before .before .before .before .before .before .before .before .before .before .before .before .before .before .before .before)) n d) (posOf (c .before .before .before .before .before .before .before .before .before .before .before .before .before .before .before .before .before .before .args .p) (M (c .before .before .before .before .before .before .before .before .before .before .before .before .before .before .before .before .before .before))) (c .before .before .before .before .before .before .before .before .before .before .before .before .before .before .before .before .before .before .args .single) (c .before .before .before .before .before .before .before .before .before .before .item-of .result) (c .before .before .before .before .before .before .before .before .before .before .before .before .before .before .before .before .before .before .pre .1 .1) (c .before .before .before .before .before .before .before .before .before .before .item-of .ensures ∙ ap itemOf (c .before .before .before .before .before .before .before .before .before .before .before .cell .ensures)) (c .before .before .before .before .before .before .before .before .item .given .0 .0) (c .before .before .before .before .before .before .before .before .item .given .1))
+
+pub content-same-length-7 : (t : ℕ) → content-lts.Need-same-length-7 (content-claims t) (content-at t) content.Post
+content-same-length-7 t c = c .before .before .before .before .attach-component .kept .1 .1 .1 .1 .0
+
+pub content-same-length-8 : (t : ℕ) → content-lts.Need-same-length-8 (content-claims t) (content-at t) content.Post
+content-same-length-8 t c = c .before .before .before .before .attach-component .kept .1 .1 .1 .1 .1 .0
+
+pub content-returns-6 : (t : ℕ) → content-lts.Need-returns-6 (content-claims t) (content-at t) content.Post
+content-returns-6 t c = runs-as (c .before .before .before .before .attach-component .ensures) (λ n d. is-attachment n (T (c .before .before .before .before .before .before .before .before .before .before .before .before .before .before .before .before .before .before)) (innerAt (T (c .before .before .before .before .before .before .before .before .before .before .before .before .before .before .before .before .before .before)) n d) (posOf (c .before .before .before .before .before .before .before .before .before .before .before .before .before .before .before .before .before .before .args .p) (M (c .before .before .before .before .before .before .before .before .before .before .before .before .before .before .before .before .before .before))) (c .before .before .before .before .before .before .before .before .before .before .before .before .before .before .before .before .before .before .args .single) (c .before .before .before .before .before .before .before .before .before .before .item-of .result) (c .before .before .before .before .before .before .before .before .before .before .before .before .before .before .before .before .before .before .pre .1 .1) (c .before .before .before .before .before .before .before .before .before .before .item-of .ensures ∙ ap itemOf (c .before .before .before .before .before .before .before .before .before .before .before .cell .ensures)) (c .before .before .before .before .before .before .before .before .item2 .given .0 .0) (c .before .before .before .before .before .before .before .before .item2 .given .1))
+
+pub content-same-length-9 : (t : ℕ) → content-lts.Need-same-length-9 (content-claims t) (content-at t) content.Post
+content-same-length-9 t c = c .before .before .before .before .command .kept .1 .1 .1 .1 .0
+
+pub content-same-length-10 : (t : ℕ) → content-lts.Need-same-length-10 (content-claims t) (content-at t) content.Post
+content-same-length-10 t c = c .before .before .before .before .command .kept .1 .1 .1 .1 .1 .0
+
+pub content-returns-7 : (t : ℕ) → content-lts.Need-returns-7 (content-claims t) (content-at t) content.Post
+content-returns-7 t c = runs-as (c .before .before .before .before .command .ensures) (λ n d. is-command n (T (c .before .before .before .before .before .before .before .before .before .before .before .before .before .before .before .before .before)) (innerAt (T (c .before .before .before .before .before .before .before .before .before .before .before .before .before .before .before .before .before)) n d) (posOf (c .before .before .before .before .before .before .before .before .before .before .before .before .before .before .before .before .before .args .p) (M (c .before .before .before .before .before .before .before .before .before .before .before .before .before .before .before .before .before))) (c .before .before .before .before .before .before .before .before .before .before .before .before .before .before .before .before .before .args .single) (c .before .before .before .before .before .before .before .before .before .item-of .result) (c .before .before .before .before .before .before .before .before .before .before .before .before .before .before .before .before .before .pre .1 .1) (c .before .before .before .before .before .before .before .before .before .item-of .ensures ∙ ap itemOf (c .before .before .before .before .before .before .before .before .before .before .cell .ensures)) (c .before .before .before .before .before .before .before .enum-told5 .given .1))
+
+pub content-same-length-11 : (t : ℕ) → content-lts.Need-same-length-11 (content-claims t) (content-at t) content.Post
+content-same-length-11 t c = c .before .before .before .before .environment .kept .1 .1 .1 .1 .0
+
+pub content-same-length-12 : (t : ℕ) → content-lts.Need-same-length-12 (content-claims t) (content-at t) content.Post
+content-same-length-12 t c = c .before .before .before .before .environment .kept .1 .1 .1 .1 .1 .0
+
+pub content-returns-8 : (t : ℕ) → content-lts.Need-returns-8 (content-claims t) (content-at t) content.Post
+content-returns-8 t c = runs-as (c .before .before .before .before .environment .ensures) (λ n d. is-environment n (T (c .before .before .before .before .before .before .before .before .before .before .before .before .before .before .before .before .before)) (innerAt (T (c .before .before .before .before .before .before .before .before .before .before .before .before .before .before .before .before .before)) n d) (posOf (c .before .before .before .before .before .before .before .before .before .before .before .before .before .before .before .before .before .args .p) (M (c .before .before .before .before .before .before .before .before .before .before .before .before .before .before .before .before .before))) (c .before .before .before .before .before .before .before .before .before .before .before .before .before .before .before .before .before .args .single) (c .before .before .before .before .before .before .before .before .before .item-of .result) (c .before .before .before .before .before .before .before .before .before .before .before .before .before .before .before .before .before .pre .1 .1) (c .before .before .before .before .before .before .before .before .before .item-of .ensures ∙ ap itemOf (c .before .before .before .before .before .before .before .before .before .before .cell .ensures)) (c .before .before .before .before .before .before .before .enum-told6 .given .1))
+
+pub content-same-length-13 : (t : ℕ) → content-lts.Need-same-length-13 (content-claims t) (content-at t) content.Post
+content-same-length-13 t c = c .before .before .before .before .item-lr .kept .1 .1 .1 .1 .0
+
+pub content-same-length-14 : (t : ℕ) → content-lts.Need-same-length-14 (content-claims t) (content-at t) content.Post
+content-same-length-14 t c = c .before .before .before .before .item-lr .kept .1 .1 .1 .1 .1 .0
+
+pub content-returns-9 : (t : ℕ) → content-lts.Need-returns-9 (content-claims t) (content-at t) content.Post
+content-returns-9 t c = runs-as (c .before .before .before .before .item-lr .ensures) (λ n d. is-left-right n (T (c .before .before .before .before .before .before .before .before .before .before .before .before .before .before .before .before .before)) (innerAt (T (c .before .before .before .before .before .before .before .before .before .before .before .before .before .before .before .before .before)) n d) (posOf (c .before .before .before .before .before .before .before .before .before .before .before .before .before .before .before .before .before .args .p) (M (c .before .before .before .before .before .before .before .before .before .before .before .before .before .before .before .before .before))) (c .before .before .before .before .before .before .before .before .before .before .before .before .before .before .before .before .before .args .single) (c .before .before .before .before .before .before .before .before .before .item-of .result) (c .before .before .before .before .before .before .before .before .before .before .before .before .before .before .before .before .before .pre .1 .1) (c .before .before .before .before .before .before .before .before .before .item-of .ensures ∙ ap itemOf (c .before .before .before .before .before .before .before .before .before .before .cell .ensures)) (c .before .before .before .before .before .before .before .enum-told7 .given .1))
+
+pub content-same-length-15 : (t : ℕ) → content-lts.Need-same-length-15 (content-claims t) (content-at t) content.Post
+content-same-length-15 t c = c .before .before .before .before .skipped-body .kept .1 .0
+
+pub content-same-length-16 : (t : ℕ) → content-lts.Need-same-length-16 (content-claims t) (content-at t) content.Post
+content-same-length-16 t c = c .before .before .before .before .skipped-body .kept .1 .1 .0
+
+pub content-returns-10 : (t : ℕ) → content-lts.Need-returns-10 (content-claims t) (content-at t) content.Post
+content-returns-10 t c = runs-as (ran-runs refl (c .before .before .before .before .before .before .before .before .before .before .before .before .before .before .before .before .before .before .pre .1 .0) (c .before .before .before .before .skipped-body .ensures)) (λ n d. is-skipped n (T (c .before .before .before .before .before .before .before .before .before .before .before .before .before .before .before .before .before .before)) (innerAt (T (c .before .before .before .before .before .before .before .before .before .before .before .before .before .before .before .before .before .before)) n d) (posOf (c .before .before .before .before .before .before .before .before .before .before .before .before .before .before .before .before .before .before .args .p) (M (c .before .before .before .before .before .before .before .before .before .before .before .before .before .before .before .before .before .before))) (c .before .before .before .before .before .before .before .before .before .before .before .before .before .before .before .before .before .before .args .single) (c .before .before .before .before .before .before .before .before .before .before .item-of .result) (c .before .before .before .before .before .before .before .before .before .before .before .before .before .before .before .before .before .before .pre .1 .1) (c .before .before .before .before .before .before .before .before .before .before .item-of .ensures ∙ ap itemOf (c .before .before .before .before .before .before .before .before .before .before .before .cell .ensures)) (c .before .before .before .before .before .before .before .before .item3 .given .0 .0) (c .before .before .before .before .before .before .before .before .item3 .given .1))

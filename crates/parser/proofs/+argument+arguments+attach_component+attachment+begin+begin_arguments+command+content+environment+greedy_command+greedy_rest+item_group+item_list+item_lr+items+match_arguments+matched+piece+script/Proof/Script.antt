@@ -1,0 +1,131 @@
+-- The needs of `script`: each arm hands on to one routine, whose rule is the arm's.
+use Prim.Native.Nat.{ℕ}
+use borrow.Author.Needs.{needs}
+use mathlib.Core.List.{List, [], _∷_}
+use mathlib.Core.Path.{_≡_, refl, sym, ap, _∙_}
+use native.Mathlib.Omega.{arith}
+use lib.ListN.{drop, take}
+use Rattle.rules.specs.Checks.{Tables, sourceOf}
+use Rattle.rules.specs.Flat.{flat}
+use Rattle.rules.specs.Items.{groupKind, closer, ofClass, classEnvironment, classCommand}
+use Rattle.rules.specs.Position as position
+use Rattle.rules.specs.Position.{steps}
+use Rattle.rules.specs.Reading as spec
+use Rattle.rules.specs.Routines as routine
+use Rattle.rules.specs.Scope as scopes
+use Rattle.rules.specs.SyntaxKind as kinds
+use Rattle.syntax.specs.ParseScope.{scopeOf}
+use Rattle.routines.specs.Stands.{Buffers, markOf, posOf}
+use Rattle.routines.specs.declared.state.Parser.{Parser}
+use Rattle.routines.proofs.Walk.{Rule, line, Walk, begins, enters, passes, leaves, stops, ends, hands-on, ran, opens, closes}
+use Rattle.parser.specs.Member.{shapeIn, tables, buffers, innerAt, endOf, rightOf, greedyCommand, attachmentAt, startAttachAt, matchedCommand}
+use Rattle.arg_match.specs.Answers.{matcherOf}
+use Rattle.items.specs.Items.{shapeFor}
+use Rattle.parser.proofs.Cycle.{below, runs, opened, leaves-node, runs-as}
+use Rattle.parser.proofs.Entry.{somehow}
+use mathlib.Core.Bool.{true, false}
+use mathlib.Core.Option.{none, some}
+use Rattle.parser.proofs.Entry.{mark-here}
+use Rattle.rules.specs.Outcome.{went}
+use Rattle.rules.specs.Flat as flats
+use Rattle.routines.specs.Stands.{listOf}
+use Rattle.routines.proofs.Building.{mark-more}
+use Rattle.routines.proofs.HeldLaws.{holding-none}
+use Rattle.routines.specs.declared.state.Mark.the-variants.{Nothing, At}
+use Rattle.routines.proofs.Walk.{arrives}
+use Rattle.parser.specs.Member.{listItems, allArguments, listed}
+use Rattle.parser.proofs.Cycle.{relists, remarks, unholds}
+use Rattle.syntax.specs.declared.parse_scope.ParseScope.{ParseScope}
+use mathlib.Core.Bool.{Bool, not, false≢true, true≢false}
+use Prim.Native.Nat.{_≤_}
+use Rattle.lexer.proofs.Laws.{peek-none}
+use Rattle.parser.proofs.Cycle.{read-less}
+use Rattle.rules.specs.Tables.{tokenCount}
+use Rattle.parser.proofs.content.Reads as content
+use Rattle.routines.proofs.trivia.Reads as trivia-reads
+use Rattle.parser.proofs.script.Reads as script
+use Rattle.parser.proofs.+argument+arguments+attach_component+attachment+begin+begin_arguments+command+content+environment+greedy_command+greedy_rest+item_group+item_list+item_lr+items+match_arguments+matched+piece+script.Lts-script as script-lts
+use Rattle.parser.proofs.+argument+arguments+attach_component+attachment+begin+begin_arguments+command+content+environment+greedy_command+greedy_rest+item_group+item_list+item_lr+items+match_arguments+matched+piece+script.Proof.Measures.{content-below, script-at}
+
+-- what each callee asks and gives, at the measure t
+abbrev pub script-claims : ℕ → script-lts.Claims
+script-claims t = (trivia-reads.Asked, trivia-reads.Learnt, content-below t, content.Post)
+
+abbrev Start : ℕ → Type 0
+Start t = script-lts.Start (script-claims t) (script-at t) script.Post
+
+abbrev T : {t : ℕ} → Start t → Tables
+T b = tables (b .args .text .now) (b .args .tokens .now) (b .args .shapes .now) (b .args .states .now)
+
+abbrev M : {t : ℕ} → Start t → Buffers
+M b = buffers (b .args .tree .now) (b .args .dropped .now)
+
+-- what the rule comes to
+module _ (n : ℕ) (t : Tables) (inner : Bool → position.Rule (flat n)) (p : position.At (flat n)) where
+  no-script : (b : Bool) → not b ≡ true → spec.script (flat n) (sourceOf t) inner b p ≡ went p
+  unfolding spec.script
+  no-script false e = refl
+  no-script true e = absurd (false≢true e)
+
+  a-script : (b : Bool) → not b ≡ false → spec.script (flat n) (sourceOf t) inner b p ≡ steps (routine.trivia (flat n) (sourceOf t) ∷ inner true ∷ []) p
+  unfolding spec.script
+  a-script true e = refl
+  a-script false e = absurd (true≢false e)
+
+  nothing-left : tokenCount (t .tokens) ≤ p .lexer .token → (inside : Bool → position.Rule (flat n)) (single : Bool) → spec.content (flat n) (sourceOf t) inside single p ≡ went p
+  unfolding spec.content
+  nothing-left end inside single = rw (peek-none (t .tokens) (p .lexer) end)
+
+-- the rule, as the steps that are left of it
+abbrev plan : {t : ℕ} → Start t → List Rule
+plan b =
+    (λ n d. routine.trivia (flat n) (sourceOf (T b)))
+    ∷ (λ n d. spec.content (flat n) (sourceOf (T b)) (innerAt (T b) n d) true)
+    ∷ []
+
+-- the walk from the entry b, after so many steps
+abbrev Came : {t : ℕ} → Start t → ℕ → Parser → List ℕ → List ℕ → Type 0
+Came b done u tree dropped =
+    Walk (T b) (λ n d. spec.script (flat n) (sourceOf (T b)) (spec.content (flat n) (sourceOf (T b)) (innerAt (T b) n d)) (b .args .has-script)) (drop done (plan b)) 0 0 (b .args .p .list .scope) (b .args .p) (M b) u (buffers tree dropped)
+
+entry : (t : ℕ) (c : script-lts.Else1 (script-claims t) (script-at t) script.Post) → Came (c .before .before .before .before .before .before .before) 0 (c .before .before .before .before .before .before .before .args .p) (c .before .before .before .before .before .before .before .args .tree .now) (c .before .before .before .before .before .before .before .args .dropped .now)
+unfolding steps line
+entry t c = begins (c .before .before .before .before .before .before .before .pre .1) (λ n d. a-script n (T (c .before .before .before .before .before .before .before)) (spec.content (flat n) (sourceOf (T (c .before .before .before .before .before .before .before))) (innerAt (T (c .before .before .before .before .before .before .before)) n d)) (posOf (c .before .before .before .before .before .before .before .args .p) (M (c .before .before .before .before .before .before .before))) (c .before .before .before .before .before .before .before .args .has-script) (c .if1 .left))
+
+after-r : (t : ℕ) (c : script-lts.After-r (script-claims t) (script-at t) script.Post) → Came (c .before .before .before .before .before .before .before .before .before .before .before .before .before) 1 (c .r .given .0 .0) (c .before .before .before .before .trivia .last .1 .0) (c .before .before .before .before .before .before .before .before .before .before .before .before .before .args .dropped .now)
+after-r t c = passes (entry t (c .before .before .before .before .before .before)) (ran refl (c .before .before .before .before .trivia .ensures (c .before .before .before .before .before .before .before .before .before .before .before .before .before .args .dropped .now))) (c .r .given .1)
+
+pub script-returns : (t : ℕ) → script-lts.Need-returns (script-claims t) (script-at t) script.Post
+unfolding line
+script-returns t c = arrives {rule = λ n d. spec.script (flat n) (sourceOf (T (c .before .before .before .before .before .before .before))) (spec.content (flat n) (sourceOf (T (c .before .before .before .before .before .before .before))) (innerAt (T (c .before .before .before .before .before .before .before)) n d)) (c .before .before .before .before .before .before .before .args .has-script)} (begins (c .before .before .before .before .before .before .before .pre .1) (λ n d. no-script n (T (c .before .before .before .before .before .before .before)) (spec.content (flat n) (sourceOf (T (c .before .before .before .before .before .before .before))) (innerAt (T (c .before .before .before .before .before .before .before)) n d)) (posOf (c .before .before .before .before .before .before .before .args .p) (M (c .before .before .before .before .before .before .before))) (c .before .before .before .before .before .before .before .args .has-script) (c .if1 .taken)))
+
+pub script-trivia-requires : (t : ℕ) → script-lts.Need-trivia-requires (script-claims t) (script-at t) script.Post
+script-trivia-requires t c κs = somehow refl (c .before .before .before .before .before .before .before .before .pre .1)
+
+pub script-same-length : (t : ℕ) → script-lts.Need-same-length (script-claims t) (script-at t) script.Post
+script-same-length t c = c .before .before .before .before .trivia .kept .1 .0
+
+pub script-returns-2 : (t : ℕ) → script-lts.Need-returns-2 (script-claims t) (script-at t) script.Post
+script-returns-2 t c = stops (entry t (c .before .before .before .before .before .before)) (ran refl (c .before .before .before .before .trivia .ensures (c .before .before .before .before .before .before .before .before .before .before .before .before .before .args .dropped .now))) (c .enum-told .given)
+
+pub script-same-length-2 : (t : ℕ) → script-lts.Need-same-length-2 (script-claims t) (script-at t) script.Post
+script-same-length-2 t c = after-r t (c .before .before .before) .passed .tree-long
+
+pub script-returns-3 : (t : ℕ) → script-lts.Need-returns-3 (script-claims t) (script-at t) script.Post
+script-returns-3 t c = let w = after-r t (c .before .before .before) in
+    arrives (remarks w (c .before .before .before .r .given .0 .0 .list .start) (c .before .before .before .r .given .0 .0 .list .last) refl (w .ready .steady .start) (w .ready .steady .last) (λ n d. nothing-left n (T (c .before .before .before .before .before .before .before .before .before .before .before .before .before .before .before .before)) (innerAt (T (c .before .before .before .before .before .before .before .before .before .before .before .before .before .before .before .before)) n d) (posOf (c .before .before .before .r .given .0 .0) (buffers (c .before .before .before .before .before .before .before .trivia .last .1 .0) (c .before .before .before .before .before .before .before .before .before .before .before .before .before .before .before .before .args .dropped .now))) (c .if2 .taken) (innerAt (T (c .before .before .before .before .before .before .before .before .before .before .before .before .before .before .before .before)) n d) true))
+
+pub script-content-requires : (t : ℕ) → script-lts.Need-content-requires (script-claims t) (script-at t) script.Post
+script-content-requires t c κs = let measure = c .before .before .before .before .before .before .before .before .before .before .before .before .before .before .before .before .before .before .pre .0 in
+    let w = after-r t (c .before .before .before .before .before) in
+    let there = c .before .before .if2 .left in
+    (omega arith, (w .ready, there))
+
+pub script-same-length-3 : (t : ℕ) → script-lts.Need-same-length-3 (script-claims t) (script-at t) script.Post
+script-same-length-3 t c = c .before .before .before .before .content .kept .1 .1 .1 .1 .0 ∙ after-r t (c .before .before .before .before .before .before .before .before .before .before) .passed .tree-long
+
+pub script-same-length-4 : (t : ℕ) → script-lts.Need-same-length-4 (script-claims t) (script-at t) script.Post
+script-same-length-4 t c = c .before .before .before .before .content .kept .1 .1 .1 .1 .1 .0 ∙ after-r t (c .before .before .before .before .before .before .before .before .before .before) .passed .notes-long
+
+pub script-returns-4 : (t : ℕ) → script-lts.Need-returns-4 (script-claims t) (script-at t) script.Post
+script-returns-4 t c = hands-on (after-r t (c .before .before .before .before .before .before .before .before .before .before)) (runs (read-less {less = 0} (omega arith) (c .before .before .before .before .content .ensures)))

@@ -1,0 +1,118 @@
+-- What an argument leaves, told by its rule: its last step holds nothing, and of a Word exactly a character is passed. Assumes nothing.
+use mathlib.Core.Path.{_≡_, refl, ap, _∙_}
+use mathlib.Core.Bool.{Bool}
+use mathlib.Core.List.{List, [], _∷_}
+use Prim.Native.Nat.{ℕ, _+_}
+use native.Mathlib.Omega.{arith}
+use lib.ListN.{length}
+use Rattle.rules.specs.Characters.{charLength}
+use Rattle.rules.specs.Checks.{Tables, sourceOf}
+use Rattle.rules.specs.Cursor.{Cursor, peekText, restStart, consumed}
+use Rattle.rules.specs.Flat.{Built, flat}
+use Rattle.rules.specs.Items.{Piece, character}
+use Rattle.rules.specs.Limits.{nodes}
+use Rattle.rules.specs.Outcome.{Out, went, refused, bind}
+use Rattle.rules.specs.Position as position
+use Rattle.rules.specs.Position.{Rule, Source, steps, building}
+use Rattle.rules.specs.Reading as spec
+use Rattle.rules.specs.Routines.{singleChar, ignoreHoldingTrivia}
+use Rattle.rules.specs.SyntaxKind.{ClauseArgument, TokenWord}
+use Rattle.lexer.specs.Reading.{cursorOf}
+use Rattle.routines.specs.Stands.{Buffers, Here, posOf, outOf}
+use Rattle.routines.specs.Contract.{Ready, Left, Holding, Runs}
+use Rattle.routines.specs.declared.state.Parser.{Parser}
+use Rattle.routines.specs.declared.state.Step.{Step}
+use Rattle.routines.specs.declared.state.Step.the-variants.{Went}
+use Rattle.parser.specs.Member.{innerAt}
+
+-- ---- where an outcome goes to
+
+abbrev Always : (Here → Type 0) → Out Here → Type 0
+Always P (went q) = P q
+Always P (refused number place) = Unit {0}
+
+-- a step, and then the others
+then-steps : (P Q : Here → Type 0) (f : Here → Out Here) (rest : List (Here → Out Here)) (q : Here) → Always P (f q) → ((y : Here) → P y → Always Q (steps rest y)) → Always Q (steps (f ∷ rest) q)
+unfolding steps
+then-steps P Q f rest q h k = on (f q) h
+  where
+    on : (o : Out Here) → Always P o → Always Q (bind o (steps rest))
+    on (went y) h = k y h
+    on (refused number place) h = tt
+
+-- whatever the step left
+last-steps : (Q : Here → Type 0) (f : Here → Out Here) (rest : List (Here → Out Here)) (q : Here) → ((y : Here) → Always Q (steps rest y)) → Always Q (steps (f ∷ rest) q)
+last-steps Q f rest q k = then-steps (λ y. Unit {0}) Q f rest q (any (f q)) (λ y h. k y)
+  where
+    any : (o : Out Here) → Always (λ y. Unit {0}) o
+    any (went y) = tt
+    any (refused number place) = tt
+
+-- the last step of all
+at-last : (Q : Here → Type 0) (g : Here → Here) (q : Here) → Q (g q) → Always Q (steps ((λ y. went (g y)) ∷ []) q)
+unfolding steps
+at-last Q g q h = h
+
+-- ---- an argument
+
+module _ (n : ℕ) (s : Source) (inner : Bool → Rule (flat n)) where
+  -- nothing is held behind it
+  frees : (what : Piece) (q : Here) → Always (λ y. y .held ≡ y .lexer .token) (spec.argument (flat n) s inner what q)
+  unfolding spec.argument
+  frees what q =
+      let Unheld : Here → Type 0 = λ y. y .held ≡ y .lexer .token in
+      last-steps Unheld _ _ q (λ a. last-steps Unheld _ _ a (λ b. last-steps Unheld _ _ b (λ c. last-steps Unheld _ _ c (λ d. at-last Unheld (position.holdingNone (flat n)) d refl))))
+
+  -- an operation of the builder passes nothing
+  building-keeps : (c : Cursor) (p : Here) (o : Out Built) → p .lexer ≡ c → Always (λ y. y .lexer ≡ c) (building (flat n) p o)
+  building-keeps c p (went b) e = e
+  building-keeps c p (refused number place) e = tt
+
+  -- where the first character of what is left ends
+  abbrev behind-one : Cursor → Cursor
+  behind-one c = consumed (s .tokens) (charLength (peekText (s .text) (s .tokens) c)) c
+
+  one-character : (c : Cursor) (p : Here) → p .lexer ≡ c → Always (λ y. y .lexer ≡ behind-one c) (singleChar (flat n) s p)
+  unfolding singleChar
+  one-character c p e =
+      moved (flat n .leaf (p .lexer .token) (record { token = p .lexer .token; kind = TokenWord; start = restStart (s .tokens) (p .lexer); size = charLength (peekText (s .text) (s .tokens) (p .lexer)) }) (p .built))
+    where
+      moved : (o : Out Built)
+          → Always (λ y. y .lexer ≡ behind-one c)
+          (bind (building (flat n) p o) (λ q. went (position.withLexer (flat n) (consumed (s .tokens) (charLength (peekText (s .text) (s .tokens) (p .lexer))) (q .lexer)) q)))
+      moved (went b) = ap behind-one e
+      moved (refused number place) = tt
+
+  -- a character is passed
+  passes-one : (q : Here) → Always (λ y. y .lexer ≡ behind-one (q .lexer)) (spec.argument (flat n) s inner character q)
+  unfolding spec.argument spec.piece ignoreHoldingTrivia
+  passes-one q =
+      let Same : Here → Type 0 = λ y. y .lexer ≡ q .lexer in
+      let Behind : Here → Type 0 = λ y. y .lexer ≡ behind-one (q .lexer) in
+      then-steps Same Behind _ _ q refl (λ a here.
+      then-steps Same Behind _ _ a (building-keeps (q .lexer) a (flat n .start (a .lexer .token) ClauseArgument (a .built)) here) (λ b same.
+      then-steps Behind Behind _ _ b (one-character (q .lexer) b same) (λ c moved.
+      then-steps Behind Behind _ _ c (building-keeps (behind-one (q .lexer)) c (flat n .finish (c .lexer .token) ClauseArgument (flat n .frame (q .built)) (c .built)) moved) (λ d still.
+      at-last Behind (position.holdingNone (flat n)) d still))))
+
+-- ---- the same of the code's state
+
+module _ {t : Tables} {gain : ℕ} (what : Piece) {q : Parser} {v : Buffers} {r : Step} {x : Buffers} {z : Parser}
+    (read : Runs t gain (λ n d. spec.argument (flat n) (sourceOf t) (innerAt t n d) what (posOf q v)) q v r x) (e : r ≡ Went z) where
+  -- what is so of every position that the rule goes to is so of the one that it went to
+  pub told : (P : Here → Type 0) → ((n d : ℕ) → Always P (spec.argument (flat n) (sourceOf t) (innerAt t n d) what (posOf q v))) → P (posOf z x)
+  told P k =
+      let is : outOf r x ≡ went (posOf z x) = ap (λ y. outOf y x) e in
+      let comes = read .is nodes (omega arith) ∙ is in
+      rw comes at (k (length (v .tree)) nodes)
+
+  pub holding-behind : Ready t z x → Holding z
+  holding-behind ready =
+      let held : z .held ≡ z .lexer .token = told (λ y. y .held ≡ y .lexer .token) (λ n d. frees n (sourceOf t) (innerAt t n d) what (posOf q v)) in
+      let dropped = ready .steady .dropped in
+      record { held = omega arith; dropped = omega arith }
+
+module _ {t : Tables} {gain : ℕ} {q : Parser} {v : Buffers} {r : Step} {x : Buffers} {z : Parser}
+    (read : Runs t gain (λ n d. spec.argument (flat n) (sourceOf t) (innerAt t n d) character (posOf q v)) q v r x) (e : r ≡ Went z) where
+  pub character-behind : cursorOf (z .lexer) ≡ consumed (t .tokens) (charLength (peekText (t .text) (t .tokens) (cursorOf (q .lexer)))) (cursorOf (q .lexer))
+  character-behind = told character read e (λ y. y .lexer ≡ consumed (t .tokens) (charLength (peekText (t .text) (t .tokens) (cursorOf (q .lexer)))) (cursorOf (q .lexer))) (λ n d. passes-one n (sourceOf t) (innerAt t n d) (posOf q v))
