@@ -2,7 +2,7 @@
 use mathlib.Core.Path.{_≡_, refl, ap, _∙_}
 use mathlib.Core.Bool.{Bool}
 use mathlib.Core.List.{List, [], _∷_}
-use Prim.Native.Nat.{ℕ, _+_}
+use Prim.Native.Nat.{ℕ}
 use native.Mathlib.Omega.{arith}
 use lib.ListN.{length}
 use Rattle.rules.specs.Characters.{charLength}
@@ -19,7 +19,7 @@ use Rattle.rules.specs.Routines.{singleChar, ignoreHoldingTrivia}
 use Rattle.rules.specs.SyntaxKind.{ClauseArgument, TokenWord}
 use Rattle.lexer.specs.Reading.{cursorOf}
 use Rattle.routines.specs.Stands.{Buffers, Here, posOf, outOf}
-use Rattle.routines.specs.Contract.{Ready, Left, Holding, Runs}
+use Rattle.routines.specs.Contract.{Ready, Holding, Runs}
 use Rattle.routines.specs.declared.state.Parser.{Parser}
 use Rattle.routines.specs.declared.state.Step.{Step}
 use Rattle.routines.specs.declared.state.Step.the-variants.{Went}

@@ -1,8 +1,8 @@
 -- The loop of arguments: its invariant is the walk so far, with turns enough for what is left to read. A turn ends, holds a token, or reads an argument.
 -- Assumes nothing.
-use mathlib.Core.Path.{_≡_, refl, sym, ap, _∙_}
+use mathlib.Core.Path.{_≡_, refl, sym, _∙_}
 use mathlib.Core.List.{List, [], _∷_}
-use mathlib.Core.Option.{Option, none, some}
+use mathlib.Core.Option.{none, some}
 use Prim.Native.Nat.{ℕ, zero, suc, _+_, _≤_, _<_}
 use native.Mathlib.Omega.{arith}
 use Rattle.rules.specs.Checks.{Tables, sourceOf}
@@ -10,15 +10,13 @@ use Rattle.rules.specs.Cursor.{peek}
 use Rattle.rules.specs.Flat.{flat}
 use Rattle.rules.specs.Items.{Piece, Choice, ends, holds, takes, choose}
 use Rattle.rules.specs.Matcher.{Matcher}
-use Rattle.rules.specs.Outcome.{Out, went, refused, bind}
-use Rattle.rules.specs.Position as position
+use Rattle.rules.specs.Outcome.{went}
 use Rattle.rules.specs.Reading as spec
 use Rattle.rules.specs.Routines.{holdTrivia}
-use Rattle.rules.specs.Tables.{tokenCount}
 use Rattle.lexer.specs.Reading.{cursorOf}
 use Rattle.lexer.proofs.Laws.{left-some}
 use Rattle.syntax.specs.ParseScope.{scopeOf}
-use Rattle.routines.specs.Stands.{Buffers, Here, posOf}
+use Rattle.routines.specs.Stands.{Buffers, posOf}
 use Rattle.routines.specs.Change.{relexed}
 use Rattle.routines.specs.Contract.{Ready, Left, Holding, Runs, leftOf}
 use Rattle.routines.specs.declared.state.Parser.{Parser}

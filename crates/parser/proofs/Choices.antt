@@ -10,7 +10,6 @@ use Rattle.rules.specs.Matcher.{Matcher, Tried, Matched, term, bracket, paren, 
 use Rattle.rules.specs.Scope.{Scope, among, stops, CurlyItem, BracketItem, ParenItem}
 use Rattle.rules.specs.Token
 use Rattle.rules.specs.Checks.{Tables}
-use Rattle.rules.specs.Tables.{kindAt}
 use Rattle.items.specs.Items.{pieceFor}
 use Rattle.items.specs.declared.choice.Piece as code
 use Rattle.items.specs.declared.choice.Piece.the-variants as piece

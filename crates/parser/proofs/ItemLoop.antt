@@ -1,9 +1,9 @@
 -- A list's loop of items: its invariant is the walk so far, with turns enough for what is left to read. Assumes nothing.
 use mathlib.Core.Path.{_≡_, refl, sym, ap, _∙_}
-use mathlib.Core.Bool.{Bool, true, false, cond}
-use mathlib.Core.List.{List, [], _∷_}
+use mathlib.Core.Bool.{Bool, true, false}
+use mathlib.Core.List.{[], _∷_}
 use mathlib.Core.Logic.{_⊎_, ⊎-elim}
-use Prim.Native.Nat.{ℕ, zero, suc, _+_, _≤_, _<_}
+use Prim.Native.Nat.{ℕ, zero, suc, _≤_, _<_}
 use native.Mathlib.Omega.{arith}
 use Rattle.rules.specs.Checks.{Tables, sourceOf}
 use Rattle.rules.specs.Cursor.{peek}
@@ -11,14 +11,12 @@ use Rattle.rules.specs.Flat.{flat}
 use Rattle.rules.specs.Outcome.{Out, went, refused, bind}
 use Rattle.rules.specs.Position.{asked}
 use Rattle.rules.specs.Reading as spec
-use Rattle.rules.specs.Tables.{tokenCount}
 use Rattle.lexer.specs.Reading.{cursorOf}
 use Rattle.lexer.proofs.Laws.{left-some}
 use Rattle.syntax.specs.ParseScope.{scopeOf}
 use Rattle.routines.specs.Stands.{Buffers, Here, posOf}
 use Rattle.routines.specs.Change.{remarked}
 use Rattle.routines.specs.Contract.{MarkOk, Ready, Left, Runs, leftOf}
-use Rattle.routines.specs.declared.state.Mark.{Mark}
 use Rattle.routines.specs.declared.state.Mark.the-variants.{At}
 use Rattle.routines.specs.declared.state.Parser.{Parser}
 use Rattle.routines.specs.declared.state.Step.{Step}

@@ -1,18 +1,15 @@
 -- What last is behind an item: laws over the state. Assumes nothing.
-use mathlib.Core.Path.{_≡_, refl, sym, ap, _∙_}
+use mathlib.Core.Path.{_≡_, refl}
 use mathlib.Core.Bool.{Bool, true, false}
 use mathlib.Core.List.{List}
 use mathlib.Core.Logic.{inl, inr}
 use Prim.Native.Nat.{ℕ}
-use Rattle.rules.specs.Checks.{Tables, shapeOf, sourceOf}
-use Rattle.rules.specs.Flat.{flat}
+use Rattle.rules.specs.Checks.{Tables, shapeOf}
 use Rattle.rules.specs.Items.{attachable}
-use Rattle.rules.specs.Reading.{lastAfter}
 use Rattle.rules.specs.Tables.{kindAt}
 use Rattle.items.specs.Items.{shapeFor}
 use Rattle.items.specs.declared.shape.Shape.{Shape}
 use Rattle.builder.specs.declared.Checkpoint.{Checkpoint}
-use Rattle.routines.specs.Stands.{Buffers, posOf}
 use Rattle.routines.specs.Change.{remarked}
 use Rattle.routines.specs.declared.state.Mark.the-variants.{At}
 use Rattle.routines.specs.declared.state.Parser.{Parser}

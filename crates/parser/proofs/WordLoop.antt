@@ -1,23 +1,20 @@
 -- The loop over a Word's characters, inside the loop of arguments: while bytes of the Word are left they are what the cursor stands before, and each turn
 -- is a turn of the rule's one loop. Assumes nothing.
 use mathlib.Core.Path.{_≡_, refl, sym, ap, _∙_}
-use mathlib.Core.List.{List, [], _∷_}
+use mathlib.Core.List.{List}
 use mathlib.Core.Option.{some}
 use Prim.Native.Nat.{ℕ, _+_, _-_, _≤_, _<_}
 use native.Mathlib.Omega.{arith}
-use lib.Dec.{eqb}
 use lib.ListN.{length, drop, length-drop}
 use Rattle.rules.specs.Characters.{charLength}
 use Rattle.rules.specs.Checks.{Tables, sourceOf}
-use Rattle.rules.specs.Cursor.{Cursor, peek, peekText, restLength, consumed}
+use Rattle.rules.specs.Cursor.{Cursor, peekText, restLength}
 use Rattle.rules.specs.Flat.{flat}
-use Rattle.rules.specs.Items.{Choice, ends, takes, character, choose, ifTried}
+use Rattle.rules.specs.Items.{ends, character, ifTried}
 use Rattle.rules.specs.Matcher.{Matcher, Tried, accepted, term, tryMatch}
 use Rattle.rules.specs.Matcher as matcher
-use Rattle.rules.specs.Position.{steps}
 use Rattle.rules.specs.Reading as spec
-use Rattle.rules.specs.Scope.{Scope}
-use Rattle.rules.specs.Tables.{tokenCount, kindAt}
+use Rattle.rules.specs.Tables.{kindAt}
 use Rattle.rules.specs.Token.{Word}
 use Rattle.lexer.specs.Reading.{cursorOf}
 use Rattle.lexer.proofs.Laws.{peek-some, rest-length, consumed-part, further}

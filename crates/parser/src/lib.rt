@@ -271,12 +271,15 @@ fn match_arguments(
 {
     let list = p.list;
     let start = list.start;
-    let a = p.with_marks(Mark::Nothing, Mark::Nothing).holding_none();
+    let cleared = p.with_marks(Mark::Nothing, Mark::Nothing);
+    let inner = cleared.list;
+    let last = inner.last;
+    let a = cleared.holding_none();
     let r = arguments(text, tokens, shapes, states, tree, dropped, a, m);
     let Step::Went(q) = r else {
         return r;
     };
-    Step::Went(q.with_marks(start, Mark::Nothing))
+    Step::Went(q.with_marks(start, last))
 }
 
 // All that a greedy command takes, in one node.

@@ -3,7 +3,7 @@
 use Prim.Native.Nat.{ℕ}
 use borrow.Author.Needs.{needs}
 use borrow.Author.Tests.{ne-eqb}
-use mathlib.Core.Path.{_≡_, sym, ap, _∙_}
+use mathlib.Core.Path.{sym, ap, _∙_}
 use native.Mathlib.Omega.{arith}
 use lib.ListN.{drop}
 use Rattle.rules.specs.Matcher.{Matcher}
@@ -97,10 +97,14 @@ pub arguments-returns : (t : ℕ) → arguments-lts.Need-returns (arguments-clai
 arguments-returns t c = taking-stops _ _ _ _ (c .before .before .before .before .before .before .before .before .before .before .before .before .before .before .before .loop .inv _ _ _ (c .before .before .before .before .before .before .before .before .before .before .before .before .before .before .before .before .before .before .before .before .before .before .before .arguments .inv)) (c .before .before .before .before .before .before .before .before .before .before .before .before .before .before .loop-test .taken) (ap triedOf (sym (c .before .before .before .before .before .before .before .before .before .before .before .tried .given .1)) ∙ c .before .before .before .before .before .before .before .before .before .before .before .before .before .try-match .ensures) (c .before .before .before .before .before .before .character .ensures) (c .enum-told3 .given)
 
 pub arguments-sub-word-2 : (t : ℕ) → arguments-lts.Need-sub-word-2 (arguments-claims t) (arguments-at t) arguments.Post arguments-Inv-loop arguments-μ-loop arguments-Inv-arguments arguments-μ-arguments
-arguments-sub-word-2 t c = rw (c .before .before .before .before .before .before .before .before .before .before .char-len .ensures) (char-fits (c .before .before .before .before .before .before .before .before .before .before .before .before .before .before .before .before .loop .word .now))
+arguments-sub-word-2 t c = let size = c .before .before .before .before .before .before .before .before .before .before .char-len .ensures in
+    let fits = char-fits (c .before .before .before .before .before .before .before .before .before .before .before .before .before .before .before .before .loop .word .now) in
+    omega arith
 
 pub arguments-part-word-start-2 : (t : ℕ) → arguments-lts.Need-part-word-start-2 (arguments-claims t) (arguments-at t) arguments.Post arguments-Inv-loop arguments-μ-loop arguments-Inv-arguments arguments-μ-arguments
-arguments-part-word-start-2 t c = rw (c .before .before .before .before .before .before .before .before .before .before .char-len .ensures) (char-fits (c .before .before .before .before .before .before .before .before .before .before .before .before .before .before .before .before .loop .word .now))
+arguments-part-word-start-2 t c = let size = c .before .before .before .before .before .before .before .before .before .before .char-len .ensures in
+    let fits = char-fits (c .before .before .before .before .before .before .before .before .before .before .before .before .before .before .before .before .loop .word .now) in
+    omega arith
 
 pub arguments-part-word-end-2 : (t : ℕ) → arguments-lts.Need-part-word-end-2 (arguments-claims t) (arguments-at t) arguments.Post arguments-Inv-loop arguments-μ-loop arguments-Inv-arguments arguments-μ-arguments
 arguments-part-word-end-2 t c = search needs

@@ -1,41 +1,22 @@
 -- The needs of `attach_component`: each arm hands on to one routine, whose rule is the arm's.
 use Prim.Native.Nat.{ℕ}
 use borrow.Author.Needs.{needs}
-use mathlib.Core.List.{List, [], _∷_}
-use mathlib.Core.Path.{_≡_, refl, sym, ap, _∙_}
+use mathlib.Core.Path.{_≡_, refl}
 use native.Mathlib.Omega.{arith}
-use lib.ListN.{drop, take}
 use Rattle.rules.specs.Checks.{Tables, sourceOf}
 use Rattle.rules.specs.Flat.{flat}
-use Rattle.rules.specs.Items.{groupKind, closer, ofClass, classEnvironment, classCommand}
 use Rattle.rules.specs.Position as position
-use Rattle.rules.specs.Position.{steps}
 use Rattle.rules.specs.Reading as spec
 use Rattle.rules.specs.Routines as routine
-use Rattle.rules.specs.Scope as scopes
-use Rattle.rules.specs.SyntaxKind as kinds
-use Rattle.syntax.specs.ParseScope.{scopeOf}
 use Rattle.routines.specs.Stands.{Buffers, markOf, posOf}
-use Rattle.routines.specs.declared.state.Parser.{Parser}
-use Rattle.routines.proofs.Walk.{Rule, line, Walk, begins, enters, passes, leaves, stops, ends, hands-on, ran, opens, closes}
-use Rattle.parser.specs.Member.{shapeIn, tables, buffers, innerAt, endOf, rightOf, greedyCommand, attachmentAt, startAttachAt, matchedCommand}
-use Rattle.arg_match.specs.Answers.{matcherOf}
-use Rattle.items.specs.Items.{shapeFor}
-use Rattle.parser.proofs.Cycle.{below, runs, opened, leaves-node, runs-as}
+use Rattle.routines.proofs.Walk.{Rule}
+use Rattle.parser.specs.Member.{tables, buffers, innerAt, attachmentAt}
+use Rattle.parser.proofs.Cycle.{runs-as}
 use Rattle.parser.proofs.Entry.{somehow}
 use mathlib.Core.Bool.{true, false}
 use mathlib.Core.Option.{none, some}
-use Rattle.parser.proofs.Entry.{mark-here}
-use Rattle.rules.specs.Outcome.{went}
 use Rattle.rules.specs.Flat as flats
-use Rattle.routines.specs.Stands.{listOf}
-use Rattle.routines.proofs.Building.{mark-more}
-use Rattle.routines.proofs.HeldLaws.{holding-none}
 use Rattle.routines.specs.declared.state.Mark.the-variants.{Nothing, At}
-use Rattle.routines.proofs.Walk.{arrives}
-use Rattle.parser.specs.Member.{listItems, allArguments, listed}
-use Rattle.parser.proofs.Cycle.{relists, remarks, unholds}
-use Rattle.syntax.specs.declared.parse_scope.ParseScope.{ParseScope}
 use mathlib.Core.Bool.{Bool, not, false≢true, true≢false}
 use mathlib.Core.Logic.{⊎-elim}
 use mathlib.Core.Option.{Option}

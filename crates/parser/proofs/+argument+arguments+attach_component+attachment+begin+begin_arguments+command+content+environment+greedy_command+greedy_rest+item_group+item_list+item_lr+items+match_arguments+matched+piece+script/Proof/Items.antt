@@ -1,7 +1,7 @@
 -- The needs of `items`: the loop's invariant is the walk so far (ItemLoop.antt), and each need a law of it.
 use Prim.Native.Nat.{ℕ}
 use borrow.Author.Needs.{needs}
-use mathlib.Core.Path.{_≡_, sym, _∙_}
+use mathlib.Core.Path.{sym, _∙_}
 use native.Mathlib.Omega.{arith}
 use Rattle.routines.specs.Contract.{leftOf}
 use Rattle.parser.specs.Member.{tables, buffers}

@@ -2,39 +2,28 @@
 use Prim.Native.Nat.{ℕ}
 use borrow.Author.Needs.{needs}
 use mathlib.Core.List.{List, [], _∷_}
-use mathlib.Core.Path.{_≡_, refl, sym, ap, _∙_}
+use mathlib.Core.Path.{ap, refl, _∙_}
 use native.Mathlib.Omega.{arith}
-use lib.ListN.{drop, take}
+use lib.ListN.{drop}
 use Rattle.rules.specs.Checks.{Tables, sourceOf}
 use Rattle.rules.specs.Flat.{flat}
-use Rattle.rules.specs.Items.{groupKind, closer, ofClass, classEnvironment, classCommand}
 use Rattle.rules.specs.Position as position
 use Rattle.rules.specs.Position.{steps}
 use Rattle.rules.specs.Reading as spec
-use Rattle.rules.specs.Routines as routine
-use Rattle.rules.specs.Scope as scopes
-use Rattle.rules.specs.SyntaxKind as kinds
-use Rattle.syntax.specs.ParseScope.{scopeOf}
-use Rattle.routines.specs.Stands.{Buffers, markOf, posOf}
+use Rattle.routines.specs.Stands.{Buffers, markOf}
 use Rattle.routines.specs.declared.state.Parser.{Parser}
-use Rattle.routines.proofs.Walk.{Rule, line, Walk, begins, enters, passes, leaves, stops, ends, hands-on, ran, opens, closes}
-use Rattle.parser.specs.Member.{shapeIn, tables, buffers, innerAt, endOf, rightOf, greedyCommand, attachmentAt, startAttachAt, matchedCommand}
+use Rattle.routines.proofs.Walk.{Rule, line, Walk, begins, passes, stops}
+use Rattle.parser.specs.Member.{tables, buffers, innerAt}
 use Rattle.arg_match.specs.Answers.{matcherOf}
-use Rattle.items.specs.Items.{shapeFor}
-use Rattle.parser.proofs.Cycle.{below, runs, opened, leaves-node, runs-as}
-use Rattle.parser.proofs.Entry.{somehow}
-use mathlib.Core.Bool.{true, false}
-use mathlib.Core.Option.{none, some}
-use Rattle.parser.proofs.Entry.{mark-here}
+use Rattle.parser.proofs.Cycle.{runs}
+use mathlib.Core.Option.{none}
 use Rattle.rules.specs.Outcome.{went}
-use Rattle.rules.specs.Flat as flats
-use Rattle.routines.specs.Stands.{listOf}
 use Rattle.routines.proofs.Building.{mark-more}
 use Rattle.routines.proofs.HeldLaws.{holding-none}
-use Rattle.routines.specs.declared.state.Mark.the-variants.{Nothing, At}
+use Rattle.routines.specs.declared.state.Mark.the-variants.{Nothing}
 use Rattle.routines.proofs.Walk.{arrives}
-use Rattle.parser.specs.Member.{listItems, allArguments, listed}
-use Rattle.parser.proofs.Cycle.{relists, remarks, unholds}
+use Rattle.parser.specs.Member.{allArguments}
+use Rattle.parser.proofs.Cycle.{remarks, unholds}
 use Rattle.syntax.specs.declared.parse_scope.ParseScope.{ParseScope}
 use Rattle.parser.proofs.arguments.Reads as arguments
 use Rattle.routines.proofs.state.Parser.holding_none.Reads as holding-none-reads
@@ -77,10 +66,10 @@ entry t c = begins (c .pre .1) (λ n d. refl)
 after-marks : (t : ℕ) (c : match-arguments-lts.After-with-marks (match-arguments-claims t) (match-arguments-at t) match-arguments.Post) → Came (c .before .before .before .before .before .before .before .before) (c .before .before .before .before .before .before .before .before .args .p .list .scope) 1 0 0 (c .with-marks .result) (c .before .before .before .before .before .before .before .before .args .tree .now) (c .before .before .before .before .before .before .before .before .args .dropped .now)
 after-marks t c = remarks (entry t (c .before .before .before .before .before .before .before .before)) Nothing Nothing (c .with-marks .ensures) tt tt (λ n d. refl)
 
-after-held : (t : ℕ) (c : match-arguments-lts.After-holding-none (match-arguments-claims t) (match-arguments-at t) match-arguments.Post) → Came (c .before .before .before .before .before .before .before .before .before) (c .before .before .before .before .before .before .before .before .before .args .p .list .scope) 2 0 0 (c .holding-none .result) (c .before .before .before .before .before .before .before .before .before .args .tree .now) (c .before .before .before .before .before .before .before .before .before .args .dropped .now)
-after-held t c = unholds (after-marks t (c .before)) (c .holding-none .ensures) (λ n d. refl)
+after-held : (t : ℕ) (c : match-arguments-lts.After-holding-none (match-arguments-claims t) (match-arguments-at t) match-arguments.Post) → Came (c .before .before .before .before .before .before .before .before .before .before) (c .before .before .before .before .before .before .before .before .before .before .args .p .list .scope) 2 0 0 (c .holding-none .result) (c .before .before .before .before .before .before .before .before .before .before .args .tree .now) (c .before .before .before .before .before .before .before .before .before .before .args .dropped .now)
+after-held t c = unholds (after-marks t (c .before .before)) (c .holding-none .ensures) (λ n d. refl)
 
-after-r : (t : ℕ) (c : match-arguments-lts.After-r (match-arguments-claims t) (match-arguments-at t) match-arguments.Post) → Came (c .before .before .before .before .before .before .before .before .before .before .before .before .before .before .before .before .before .before) (c .before .before .before .before .before .before .before .before .before .before .before .before .before .before .before .before .before .before .args .p .list .scope) 3 0 0 (c .r .given .0 .0) (c .before .before .before .before .before .before .arguments .last .1 .1 .1 .1 .0) (c .before .before .before .before .before .before .arguments .last .1 .1 .1 .1 .1 .0)
+after-r : (t : ℕ) (c : match-arguments-lts.After-r (match-arguments-claims t) (match-arguments-at t) match-arguments.Post) → Came (c .before .before .before .before .before .before .before .before .before .before .before .before .before .before .before .before .before .before .before) (c .before .before .before .before .before .before .before .before .before .before .before .before .before .before .before .before .before .before .before .args .p .list .scope) 3 0 0 (c .r .given .0 .0) (c .before .before .before .before .before .before .arguments .last .1 .1 .1 .1 .0) (c .before .before .before .before .before .before .arguments .last .1 .1 .1 .1 .1 .0)
 after-r t c = passes (after-held t (c .before .before .before .before .before .before .before .before .before)) (runs (c .before .before .before .before .before .before .arguments .ensures)) (c .r .given .1)
 
 pub match-arguments-with-marks-requires : (t : ℕ) → match-arguments-lts.Need-with-marks-requires (match-arguments-claims t) (match-arguments-at t) match-arguments.Post
@@ -90,9 +79,9 @@ pub match-arguments-holding-none-requires : (t : ℕ) → match-arguments-lts.Ne
 match-arguments-holding-none-requires t c κs = search needs
 
 pub match-arguments-arguments-requires : (t : ℕ) → match-arguments-lts.Need-arguments-requires (match-arguments-claims t) (match-arguments-at t) match-arguments.Post
-match-arguments-arguments-requires t c κs = let measure = c .before .before .before .before .before .before .before .before .before .before .before .pre .0 in
+match-arguments-arguments-requires t c κs = let measure = c .before .before .before .before .before .before .before .before .before .before .before .before .pre .0 in
     let w = after-held t (c .before .before) in
-    (omega arith, (w .ready, rw (c .before .before .holding-none .ensures) (holding-none (after-marks t (c .before .before .before) .ready))))
+    (omega arith, (w .ready, rw (c .before .before .holding-none .ensures) (holding-none (after-marks t (c .before .before .before .before) .ready))))
 
 pub match-arguments-same-length : (t : ℕ) → match-arguments-lts.Need-same-length (match-arguments-claims t) (match-arguments-at t) match-arguments.Post
 match-arguments-same-length t c = c .before .before .before .before .before .before .arguments .kept .1 .1 .1 .1 .0 ∙ after-held t (c .before .before .before .before .before .before .before .before .before) .passed .tree-long
@@ -114,4 +103,4 @@ match-arguments-same-length-4 t c = after-r t (c .before .before) .passed .notes
 
 pub match-arguments-returns-2 : (t : ℕ) → match-arguments-lts.Need-returns-2 (match-arguments-claims t) (match-arguments-at t) match-arguments.Post
 match-arguments-returns-2 t c = let rows = after-r t (c .before .before) .passed .rows in
-    arrives (remarks (after-r t (c .before .before)) (c .before .before .before .before .before .before .before .before .before .before .before .before .before .before .before .before .before .before .before .before .args .p .list .start) Nothing (c .with-marks2 .ensures) (mark-more (c .before .before .before .before .before .before .before .before .before .before .before .before .before .before .before .before .before .before .before .before .args .p .list .start) (c .before .before .before .before .before .before .before .before .before .before .before .before .before .before .before .before .before .before .before .before .args .p .builder) (c .before .before .r .given .0 .0 .builder) rows (c .before .before .before .before .before .before .before .before .before .before .before .before .before .before .before .before .before .before .before .before .pre .1 .steady .start)) tt (λ n d. refl))
+    arrives (remarks (after-r t (c .before .before)) (c .before .before .before .before .before .before .before .before .before .before .before .before .before .before .before .before .before .before .before .before .before .args .p .list .start) Nothing (rw (ap (λ (z : Parser). z .list .last) (c .before .before .before .before .before .before .before .before .before .before .before .before .before .with-marks .ensures)) at (c .with-marks2 .ensures)) (mark-more (c .before .before .before .before .before .before .before .before .before .before .before .before .before .before .before .before .before .before .before .before .before .args .p .list .start) (c .before .before .before .before .before .before .before .before .before .before .before .before .before .before .before .before .before .before .before .before .before .args .p .builder) (c .before .before .r .given .0 .0 .builder) rows (c .before .before .before .before .before .before .before .before .before .before .before .before .before .before .before .before .before .before .before .before .before .pre .1 .steady .start)) tt (λ n d. refl))

@@ -2,26 +2,22 @@
 use Prim.Native.Nat.{ℕ}
 use borrow.Author.Needs.{needs}
 use mathlib.Core.List.{List, [], _∷_}
-use mathlib.Core.Path.{_≡_, refl, _∙_}
+use mathlib.Core.Path.{refl, _∙_}
 use native.Mathlib.Omega.{arith}
 use lib.ListN.{drop, take}
 use Rattle.rules.specs.Checks.{Tables, sourceOf}
 use Rattle.rules.specs.Flat.{flat}
-use Rattle.rules.specs.Items.{groupKind, closer}
 use Rattle.rules.specs.Position as position
 use Rattle.rules.specs.Position.{steps}
 use Rattle.rules.specs.Reading as spec
 use Rattle.rules.specs.Routines as routine
-use Rattle.rules.specs.Scope as scopes
 use Rattle.rules.specs.SyntaxKind as kinds
-use Rattle.syntax.specs.ParseScope.{scopeOf}
-use Rattle.routines.specs.Stands.{Buffers, markOf}
+use Rattle.routines.specs.Stands.{Buffers}
 use Rattle.routines.specs.declared.state.Parser.{Parser}
-use Rattle.routines.proofs.Walk.{Rule, line, Walk, begins, enters, passes, leaves, stops, ends, hands-on, ran, opens, closes}
-use Rattle.parser.specs.Member.{tables, buffers, innerAt, endOf, rightOf, greedyCommand, attachmentAt, startAttachAt, matchedCommand}
+use Rattle.routines.proofs.Walk.{Rule, line, Walk, begins, enters, passes, leaves, stops, hands-on, ran, opens, closes}
+use Rattle.parser.specs.Member.{tables, buffers, innerAt, matchedCommand}
 use Rattle.arg_match.specs.Answers.{matcherOf}
-use Rattle.items.specs.Items.{shapeFor}
-use Rattle.parser.proofs.Cycle.{below, runs, opened, leaves-node}
+use Rattle.parser.proofs.Cycle.{runs, opened, leaves-node}
 use Rattle.parser.proofs.Entry.{somehow}
 use Rattle.routines.proofs.eat.Reads as eat-reads
 use Rattle.routines.proofs.extract_holding_trivia.Reads as extract-holding-trivia-reads
