@@ -4,7 +4,9 @@ pub mod Characters
 pub mod Checks
 pub mod Flat
 pub mod OnTree
+pub mod PutBack
 pub mod Questions
+pub mod Reached
 pub mod Related
 pub mod Render
 pub mod Room

@@ -20,4 +20,5 @@ pub mod Run
 pub mod Tree
 pub mod Questions
 pub mod Rowan
+pub mod PutBack
 pub mod Cases

@@ -1,0 +1,139 @@
+-- How far reading has come, as leaves and dropped rows: a cursor stands before a token or in the middle of a Word, each leaf takes what is left of the token or
+-- a part of a Word, each dropped row a token. Read to the end, that is the statement token by token. Assumes nothing.
+use Prim.Native.Nat.{ℕ, zero, suc, _+_, _*_, _-_, _≤_, _<_}
+use mathlib.Core.Path.{_≡_, refl, sym, ap, subst, _∙_}
+use mathlib.Core.Bool.{Bool, true, false, cond}
+use mathlib.Core.List.{List, [], _∷_, _++_, append-nil}
+use native.Mathlib.Omega.{arith}
+use native.Mathlib.Nat.{add-zero, sub-zero}
+use lib.Dec.{eqb, leb}
+use lib.ListN.{length, take, drop, length-append, length-drop}
+use lib.Seq.{append-snoc, drop-at, length-take-le}
+use borrow.Author.Tests.{eqb-true, eqb-false, leb-true, leb-false}
+use Rattle.rules.specs.Characters.{charLength, isUtf8}
+use Rattle.rules.specs.Cursor.{Cursor, atStart, restStart, restLength, peekText, eaten, consumed, left}
+use Rattle.rules.specs.Flat.{droppedRow}
+use Rattle.rules.specs.Limits
+use Rattle.rules.specs.Position.{Source}
+use Rattle.rules.specs.PutBack.{Parts, last, more, EachToken, end, leaf, split, drops}
+use Rattle.rules.specs.Tables.{tokenCount, kindAt, startAt, lengthAt, part}
+use Rattle.rules.specs.Token
+use Rattle.rules.proofs.Characters.{either, char-fits, utf8-some, utf8-again}
+use Rattle.rules.proofs.PutBack.{part-add}
+
+-- what the checks tell of the tokens: each lies in the text, and a Word is some characters
+pub record Sound (source : Source) : Type 0 where
+  pub text : length (source .text) ≤ Limits.text
+  pub inside : (i : ℕ) → i < tokenCount (source .tokens) → startAt (source .tokens) i + lengthAt (source .tokens) i ≤ length (source .text)
+  pub some : (i : ℕ) → i < tokenCount (source .tokens) → kindAt (source .tokens) i ≡ Token.Word → 1 ≤ lengthAt (source .tokens) i
+  pub utf8 :
+      (i : ℕ)
+      → i < tokenCount (source .tokens)
+      → kindAt (source .tokens) i ≡ Token.Word
+      → isUtf8 (part (source .text) (startAt (source .tokens) i) (lengthAt (source .tokens) i)) ≡ true
+
+module _ (source : Source) where
+  -- a token is next
+  abbrev pub There : Cursor → Type 0
+  There c = c .token < tokenCount (source .tokens)
+
+  -- and it is a Word
+  abbrev pub AtWord : Cursor → Type 0
+  AtWord c = kindAt (source .tokens) (c .token) ≡ Token.Word
+
+  -- a part of the next token is taken: it is a Word, and some characters are left of it
+  pub record Midway (c : Cursor) : Type 0 where
+    pub there : There c
+    pub word : AtWord c
+    pub less : c .taken < lengthAt (source .tokens) (c .token)
+    pub utf8 : isUtf8 (peekText (source .text) (source .tokens) c) ≡ true
+
+  pub record Standing (c : Cursor) : Type 0 where
+    pub inside : c .token ≤ tokenCount (source .tokens)
+    pub midway : 1 ≤ c .taken → Midway c
+
+  pub data Reached : List (ℕ × ℕ) → List (List ℕ) → Cursor → Type 0 where
+    nothing : Reached [] [] atStart
+    takes-rest : {leaves : List (ℕ × ℕ)} {dropped : List (List ℕ)} {c : Cursor} → Reached leaves dropped c → There c → Standing c
+        → Reached (leaves ++ ((restStart (source .tokens) c, restLength (source .tokens) c) ∷ [])) dropped (eaten c)
+    takes-part : {leaves : List (ℕ × ℕ)} {dropped : List (List ℕ)} {c : Cursor} {size : ℕ} → Reached leaves dropped c → There c → AtWord c → 1 ≤ size → size < restLength (source .tokens) c
+        → Reached (leaves ++ ((restStart (source .tokens) c, size) ∷ [])) dropped (record { token = c .token; taken = c .taken + size })
+    drops-it : {leaves : List (ℕ × ℕ)} {dropped : List (List ℕ)} {c : Cursor} (reason : ℕ) → Reached leaves dropped c → There c → c .taken ≡ 0
+        → Reached leaves (dropped ++ (droppedRow (c .token) reason (length leaves) ∷ [])) (eaten c)
+
+  -- ---- token by token
+
+  -- the leaves and dropped rows from a cursor on, k leaves being written before them
+  data From : Cursor → ℕ → List (ℕ × ℕ) → List (List ℕ) → Type 0 where
+    at : {c : Cursor} {k : ℕ} {leaves : List (ℕ × ℕ)} {dropped : List (List ℕ)} → c .taken ≡ 0 → EachToken (source .tokens) (c .token) k leaves dropped → From c k leaves dropped
+    within : {c : Cursor} {k : ℕ} {parts leaves : List (ℕ × ℕ)} {dropped : List (List ℕ)} → 1 ≤ c .taken → Parts (restStart (source .tokens) c) (restLength (source .tokens) c) parts
+        → EachToken (source .tokens) (c .token + 1) (k + length parts) leaves dropped
+        → From c k (parts ++ leaves) dropped
+
+  behind : (c : Cursor) {k : ℕ} {leaves : List (ℕ × ℕ)} {dropped : List (List ℕ)} → From (eaten c) k leaves dropped → EachToken (source .tokens) (c .token + 1) k leaves dropped
+  behind c (at e each) = each
+  behind c (within some parts each) = absurd (omega arith)
+
+  module _ (c : Cursor) where
+    rest-some : c .taken < lengthAt (source .tokens) (c .token) → 1 ≤ restLength (source .tokens) c
+    unfolding restLength
+    rest-some less = omega arith
+
+    whole-start : c .taken ≡ 0 → restStart (source .tokens) c ≡ startAt (source .tokens) (c .token)
+    unfolding restStart
+    whole-start e = rw (e, add-zero)
+
+    whole-length : c .taken ≡ 0 → restLength (source .tokens) c ≡ lengthAt (source .tokens) (c .token)
+    unfolding restLength
+    whole-length e = rw (e, sub-zero)
+
+    -- what is left of a token is a leaf
+    from-rest : {k : ℕ} {leaves : List (ℕ × ℕ)} {dropped : List (List ℕ)} → There c → Standing c → EachToken (source .tokens) (c .token + 1) (k + 1) leaves dropped
+        → From c k ((restStart (source .tokens) c, restLength (source .tokens) c) ∷ leaves) dropped
+    from-rest there stands each =
+        either (eqb (c .taken) 0)
+        (λ e. let none = eqb-true (c .taken) 0 e in rw (whole-start none, whole-length none) (at none (leaf there each)))
+        (λ e.
+        let some = eqb-false (c .taken) 0 e in
+        let mid = stands .midway (omega arith) in
+        within (omega arith) (last (rest-some (mid .less))) each)
+
+    -- a part of a Word is taken, and what follows are more parts of it
+    next-start : (size : ℕ) → restStart (source .tokens) (record { token = c .token; taken = c .taken + size }) ≡ restStart (source .tokens) c + size
+    unfolding restStart
+    next-start size = omega arith
+
+    next-length : (size : ℕ) → size < restLength (source .tokens) c → restLength (source .tokens) c ≡ size + restLength (source .tokens) (record { token = c .token; taken = c .taken + size })
+    unfolding restLength
+    next-length size less = omega arith
+
+    from-part : {k : ℕ} {leaves : List (ℕ × ℕ)} {dropped : List (List ℕ)} (size : ℕ) → There c → AtWord c → 1 ≤ size → size < restLength (source .tokens) c
+        → From (record { token = c .token; taken = c .taken + size }) (k + 1) leaves dropped
+        → From c k ((restStart (source .tokens) c, size) ∷ leaves) dropped
+    from-part size there word some less (at e each) = absurd (omega arith)
+    from-part {k} size there word some less (within {parts} taken are each) =
+        let count : k + 1 + length parts ≡ k + suc (length parts) = omega arith in
+        let all : Parts (restStart (source .tokens) c) (restLength (source .tokens) c) ((restStart (source .tokens) c, size) ∷ parts) = rw (next-length size less) (more some (rw (next-start size) at are)) in
+        either (eqb (c .taken) 0)
+        (λ e. let none = eqb-true (c .taken) 0 e in rw (whole-start none) (at none (split there word (rw (whole-start none, whole-length none) at all) (rw count at each))))
+        (λ e. let some = eqb-false (c .taken) 0 e in within (omega arith) all (rw count at each))
+
+  -- what is reached, and then the rest
+  told : {leaves : List (ℕ × ℕ)} {dropped : List (List ℕ)} {c : Cursor} {leaves′ : List (ℕ × ℕ)} {dropped′ : List (List ℕ)} → Reached leaves dropped c → From c (length leaves) leaves′ dropped′
+      → EachToken (source .tokens) 0 0 (leaves ++ leaves′) (dropped ++ dropped′)
+  told nothing (at e each) = each
+  told nothing (within some are each) = absurd (omega arith)
+  told {leaves′} (takes-rest {leaves} {c} reached there stands) from =
+      rw (append-snoc leaves (restStart (source .tokens) c, restLength (source .tokens) c) leaves′)
+      (told reached (from-rest c there stands (rw length-append at (behind c from))))
+  told {leaves′} (takes-part {leaves} {c} {size} reached there word some less) from =
+      rw (append-snoc leaves (restStart (source .tokens) c, size) leaves′)
+      (told reached (from-part c size there word some less (rw length-append at from)))
+  told {dropped′} (drops-it {leaves} {dropped} {c} reason reached there whole) from =
+      rw (append-snoc dropped (droppedRow (c .token) reason (length leaves)) dropped′)
+      (told reached (at whole (drops there (behind c from))))
+
+  -- read to the end
+  pub all-told : {leaves : List (ℕ × ℕ)} {dropped : List (List ℕ)} {c : Cursor} → c .token ≡ tokenCount (source .tokens) → c .taken ≡ 0 → Reached leaves dropped c
+      → EachToken (source .tokens) 0 0 leaves dropped
+  all-told {leaves} {dropped} over whole reached = rw (append-nil leaves, append-nil dropped) at (told reached (at whole (end over)))

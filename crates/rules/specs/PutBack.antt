@@ -1,0 +1,85 @@
+-- Putting back: what a reader of a stored tree can do with its rows, the dropped rows, the text and the token rows, knowing nothing of how they were read.
+-- "In every accepted run, put the dropped texts back among the leaf texts where the dropped list says: the token texts return, joined in order."
+use Prim.Native.Nat.{ℕ, zero, suc, _+_, _≤_, _<_}
+use mathlib.Core.Path.{_≡_}
+use mathlib.Core.Bool.{cond}
+use mathlib.Core.List.{List, [], _∷_, _++_, map}
+use lib.Dec.{eqb}
+use lib.ListN.{length, getD, take, drop}
+use Rattle.rules.specs.Flat.{tagLeaf, droppedRow}
+use Rattle.rules.specs.Tables.{tokenCount, kindAt, startAt, lengthAt, part}
+use Rattle.rules.specs.Token
+
+-- so many rows of a buffer, each a list of its numbers; what stands behind them is no part of them
+abbrev pub rowsOf : ℕ → ℕ → List ℕ → List (List ℕ)
+rowsOf width zero buffer = []
+rowsOf width (suc n) buffer = take width buffer ∷ rowsOf width n (drop width buffer)
+
+-- "Tree row: tag (0 start, 1 leaf, 2 finish), kind, start, length": start and length of each leaf, in row order
+abbrev pub leaves : List (List ℕ) → List (ℕ × ℕ)
+leaves [] = []
+leaves (row ∷ rows) = cond (eqb (getD row 0 0) tagLeaf) ((getD row 2 0, getD row 3 0) ∷ leaves rows) (leaves rows)
+
+-- the leaf texts
+abbrev pub textsOf : List ℕ → List (ℕ × ℕ) → List (List ℕ)
+textsOf text leaves = map (λ (l : ℕ × ℕ). part text (l .0) (l .1)) leaves
+
+abbrev pub leafTexts : List ℕ → List (List ℕ) → List (List ℕ)
+leafTexts text tree = textsOf text (leaves tree)
+
+abbrev pub tokenText : List ℕ → List ℕ → ℕ → List ℕ
+tokenText text tokens i = part text (startAt tokens i) (lengthAt tokens i)
+
+-- "Dropped row: token index, reason (1 trivia, 2 opener, 3 closer), leaves written before it": of each the leaves written before it, and its token's text
+abbrev pub droppedTexts : List ℕ → List ℕ → List (List ℕ) → List (ℕ × List ℕ)
+droppedTexts text tokens dropped = map (λ (row : List ℕ). (getD row 2 0, tokenText text tokens (getD row 0 0))) dropped
+
+-- the dropped texts before which so many leaves were written, joined
+abbrev pub droppedAfter : ℕ → List (ℕ × List ℕ) → List ℕ
+droppedAfter k [] = []
+droppedAfter k (d ∷ ds) = cond (eqb (d .0) k) (d .1) [] ++ droppedAfter k ds
+
+-- from the k-th leaf on: before each leaf's text the dropped texts whose count of leaves stands there
+abbrev pub among : ℕ → List (List ℕ) → List (ℕ × List ℕ) → List ℕ
+among k [] dropped = droppedAfter k dropped
+among k (leaf ∷ more) dropped = droppedAfter k dropped ++ (leaf ++ among (k + 1) more dropped)
+
+-- "put the dropped texts back among the leaf texts where the dropped list says", for rows of a tree and dropped rows
+abbrev pub putBack : List ℕ → List ℕ → List (List ℕ) → List (List ℕ) → List ℕ
+putBack text tokens tree dropped = among 0 (leafTexts text tree) (droppedTexts text tokens dropped)
+
+-- "the token texts .., joined in order": of so many tokens, from one on
+abbrev pub textsFrom : List ℕ → List ℕ → ℕ → ℕ → List ℕ
+textsFrom text tokens i zero = []
+textsFrom text tokens i (suc n) = tokenText text tokens i ++ textsFrom text tokens (i + 1) n
+
+abbrev pub tokenTexts : List ℕ → List ℕ → List ℕ
+tokenTexts text tokens = textsFrom text tokens 0 (tokenCount tokens)
+
+-- ---- token by token
+
+-- the parts of a range: none is empty, each begins where the one before it ends, and the last ends where the range does
+pub data Parts : ℕ → ℕ → List (ℕ × ℕ) → Type 0 where
+  last : {start size : ℕ} → 1 ≤ size → Parts start size ((start, size) ∷ [])
+  more : {start size rest : ℕ} {parts : List (ℕ × ℕ)} → 1 ≤ size → Parts (start + size) rest parts → Parts start (size + rest) ((start, size) ∷ parts)
+
+-- each token from the i-th on is a leaf, the parts of a split Word, or one dropped row, and there are no other leaves and dropped rows. Before them
+-- k leaves were written, which is what a dropped row says of itself. So no token is passed over and none comes twice, whatever their ranges are
+pub data EachToken (tokens : List ℕ) : ℕ → ℕ → List (ℕ × ℕ) → List (List ℕ) → Type 0 where
+  end : {i k : ℕ} → i ≡ tokenCount tokens → EachToken tokens i k [] []
+  leaf : {i k : ℕ} {leaves : List (ℕ × ℕ)} {dropped : List (List ℕ)} → i < tokenCount tokens
+      → EachToken tokens (i + 1) (k + 1) leaves dropped
+      → EachToken tokens i k ((startAt tokens i, lengthAt tokens i) ∷ leaves) dropped
+  split : {i k : ℕ} {parts leaves : List (ℕ × ℕ)} {dropped : List (List ℕ)} → i < tokenCount tokens → kindAt tokens i ≡ Token.Word → Parts (startAt tokens i) (lengthAt tokens i) parts
+      → EachToken tokens (i + 1) (k + length parts) leaves dropped
+      → EachToken tokens i k (parts ++ leaves) dropped
+  drops : {i k reason : ℕ} {leaves : List (ℕ × ℕ)} {dropped : List (List ℕ)} → i < tokenCount tokens
+      → EachToken tokens (i + 1) k leaves dropped
+      → EachToken tokens i k leaves (droppedRow i reason k ∷ dropped)
+
+-- dropped rows rise by token: each names a token behind that of the row before it, which is at least `low`, and none past the last token
+pub data Rises (tokens : List ℕ) : ℕ → List (List ℕ) → Type 0 where
+  none : {low : ℕ} → Rises tokens low []
+  next : {low : ℕ} {row : List ℕ} {rows : List (List ℕ)} → low ≤ getD row 0 0 → getD row 0 0 < tokenCount tokens
+      → Rises tokens (getD row 0 0 + 1) rows
+      → Rises tokens low (row ∷ rows)
