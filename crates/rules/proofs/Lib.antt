@@ -4,6 +4,7 @@ pub mod Characters
 pub mod Checks
 pub mod Flat
 pub mod OnTree
+pub mod Progress
 pub mod PutBack
 pub mod Questions
 pub mod Reached
