@@ -3,6 +3,7 @@ pub mod Alike
 pub mod Characters
 pub mod Checks
 pub mod Flat
+pub mod Handed
 pub mod OnTree
 pub mod Progress
 pub mod PutBack

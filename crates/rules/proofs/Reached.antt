@@ -79,11 +79,11 @@ module _ (source : Source) where
     unfolding restLength
     rest-some less = omega arith
 
-    whole-start : c .taken ≡ 0 → restStart (source .tokens) c ≡ startAt (source .tokens) (c .token)
+    pub whole-start : c .taken ≡ 0 → restStart (source .tokens) c ≡ startAt (source .tokens) (c .token)
     unfolding restStart
     whole-start e = rw (e, add-zero)
 
-    whole-length : c .taken ≡ 0 → restLength (source .tokens) c ≡ lengthAt (source .tokens) (c .token)
+    pub whole-length : c .taken ≡ 0 → restLength (source .tokens) c ≡ lengthAt (source .tokens) (c .token)
     unfolding restLength
     whole-length e = rw (e, sub-zero)
 
