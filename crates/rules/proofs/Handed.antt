@@ -130,16 +130,19 @@ module _ {B : Builder} {source : Source} (K : Handed B source) (sound : Sound so
   free-of (goes (opened b on)) = goes on
   free-of (stopped number place) = stopped number place
 
+  pub finish-if : (kind : ℕ) (f : B .Frame) (p : At B) {n : ℕ} → Free n p → IfWent (Free n) (finish B kind f p)
+  finish-if kind f p on = free-of (finish! kind f p on)
+
   pub closes : (kind : ℕ) (f : B .Frame) (p : At B) {n : ℕ} → Free n p → IfWent (Free n) (steps (finish B kind f ∷ []) p)
   unfolding steps
-  closes kind f p on = last-if (free-of (finish! kind f p on))
+  closes kind f p on = last-if (finish-if kind f p on)
 
   -- a position that was built on twice is one that was built on
   again : {p : At B} {n : ℕ} {b : B .State} {o : Out (At B)} → IfWent (Opened (withBuilt B p b) n) o → IfWent (Opened p n) o
   again (goes (opened b on)) = goes (opened b on)
   again (stopped number place) = stopped number place
 
-  wrap! : (kind : ℕ) (m : B .Mark) (p : At B) {n : ℕ} → Free n p → IfWent (Opened p n) (wrap B kind m p)
+  pub wrap! : (kind : ℕ) (m : B .Mark) (p : At B) {n : ℕ} → Free n p → IfWent (Opened p n) (wrap B kind m p)
   unfolding wrap
   wrap! kind m p on =
       opened-then _ (startAt! kind m p on) (λ b on. opened-then _ (startAt! SyntaxKind.ClauseArgument m (withBuilt B p b) on)

@@ -4,6 +4,7 @@ pub mod Characters
 pub mod Checks
 pub mod Flat
 pub mod Handed
+pub mod HandedItems
 pub mod OnTree
 pub mod Progress
 pub mod PutBack
