@@ -5,6 +5,8 @@ pub mod Checks
 pub mod Flat
 pub mod Handed
 pub mod HandedItems
+pub mod HandedRows
+pub mod NothingLost
 pub mod OnTree
 pub mod Progress
 pub mod PutBack

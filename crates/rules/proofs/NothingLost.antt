@@ -1,0 +1,91 @@
+-- Demand 3's first half, of every accepted run, on the buffers after it and the answer's counts: each token is a leaf, the parts of a split Word, or one dropped
+-- row; putting back gives the token texts; so inputs whose texts differ never share what is put together. What the checks and the reading tell. Assumes nothing.
+use Prim.Native.Nat.{ℕ, zero, suc, _+_, _*_, _/_, _≤_, _<_}
+use mathlib.Core.Path.{_≡_, refl, sym, ap, ap₂, subst, _∙_}
+use mathlib.Core.List.{List, [], _∷_, _++_}
+use mathlib.Core.Option.{Option, none, some}
+use native.Mathlib.Omega.{arith}
+use native.Mathlib.Nat.{le-refl, sub-zero}
+use lib.ListN.{length, drop}
+use Rattle.rules.specs.Checks.{Tables, Refusal, checks, sourceOf}
+use Rattle.rules.specs.Flat.{Built, Mark, flat, empty}
+use Rattle.rules.specs.Limits.{treeWidth, droppedWidth}
+use Rattle.rules.specs.Outcome.{Out, went, refused}
+use Rattle.rules.specs.Position.{Pos}
+use Rattle.rules.specs.PutBack.{rowsOf, leaves, leafTexts, droppedTexts, among, putBack, tokenTexts, EachToken, Rises}
+use Rattle.rules.specs.Reading.{parse}
+use Rattle.rules.specs.Run.{Answer, accepted, refusedAt, Ran, over, afterReading, afterChecks, run}
+use Rattle.rules.specs.Tables.{tokenCount}
+use Rattle.rules.proofs.Checks
+use Rattle.rules.proofs.Handed.{IfWent, goes, stopped}
+use Rattle.rules.proofs.HandedRows.{HasRead, rows-front, rows-read}
+use Rattle.rules.proofs.PutBack.{put-back, rises}
+use Rattle.rules.proofs.Reached.{Sound, all-told}
+
+-- tables that passed the checks
+sound : (t : Tables) (dropped : ℕ) → Checks.Accepted t dropped → Sound (sourceOf t)
+sound t dropped passed =
+    record {
+      text = passed .limits .text;
+      inside = λ i there. passed .token i there .inside;
+      some = λ i there. passed .token i there .some;
+      utf8 = λ i there. passed .token i there .utf8;
+    }
+
+-- of rows in both buffers, with what was there before behind them
+module _ (t : Tables) (tree dropped : List ℕ) where
+  abbrev Told : ℕ → ℕ → List ℕ → List ℕ → Type 0
+  Told rows drops tree dropped = EachToken (t .tokens) 0 0 (leaves (rowsOf treeWidth rows tree)) (rowsOf droppedWidth drops dropped)
+
+  told : (b : Built) → HasRead (sourceOf t) b (record { token = tokenCount (t .tokens); taken = 0 })
+      → Told (b .tree .rows) (length (b .dropped) / droppedWidth) (over (b .tree .tree) tree) (over (b .dropped) dropped)
+  told b h =
+      let long = h .tied .long in
+      let count : length (b .dropped) / droppedWidth ≡ length (h .ds) = omega arith in
+      rw (count, rows-front treeWidth (b .tree .rows) (b .tree .tree) (drop (length (b .tree .tree)) tree) (h .tied .size), rows-front droppedWidth (length (h .ds)) (b .dropped) (drop (length (b .dropped)) dropped) long, h .tied .leaves, h .tied .dropped)
+      (all-told (sourceOf t) refl refl (h .reached))
+
+  after-reading : {rows drops : ℕ} (o : Out (Pos Built Mark)) → IfWent (λ q. HasRead (sourceOf t) (q .built) (record { token = tokenCount (t .tokens); taken = 0 })) o → afterReading tree dropped o .answer ≡ accepted rows drops
+      → Told rows drops (afterReading tree dropped o .tree) (afterReading tree dropped o .dropped)
+  after-reading {rows} {drops} (went p) (goes h) e =
+      let same-rows : p .built .tree .rows ≡ rows = cc in
+      let same-drops : length (p .built .dropped) / droppedWidth ≡ drops = cc in
+      rw (same-rows, same-drops) at (told (p .built) h)
+  after-reading (refused number place) h e = let z : _≡_ {A = ℕ} 0 1 = cc in absurd (omega arith)
+
+  after-checks : {rows drops : ℕ} (o : Option Refusal) → checks t (length dropped) ≡ o → afterChecks o t tree dropped .answer ≡ accepted rows drops
+      → Told rows drops (afterChecks o t tree dropped .tree) (afterChecks o t tree dropped .dropped)
+  after-checks none passed e =
+      after-reading (parse (flat (length tree)) (sourceOf t) empty) (rows-read (length tree) (sourceOf t) (sound t (length dropped) (Checks.accepted t (length dropped) passed))) e
+  after-checks (some refusal) passed e = let z : _≡_ {A = ℕ} 0 1 = cc in absurd (omega arith)
+
+-- ---- the theorems
+
+module _ (t : Tables) (tree dropped : List ℕ) (rows drops : ℕ) (e : run t tree dropped .answer ≡ accepted rows drops) where
+  -- the rows that an accepted run says it wrote
+  abbrev treeRows : List (List ℕ)
+  treeRows = rowsOf treeWidth rows (run t tree dropped .tree)
+
+  abbrev droppedRows : List (List ℕ)
+  droppedRows = rowsOf droppedWidth drops (run t tree dropped .dropped)
+
+  -- each token is a leaf, the parts of a split Word, or one dropped row, exactly once
+  pub each-token : EachToken (t .tokens) 0 0 (leaves treeRows) droppedRows
+  unfolding run
+  each-token = after-checks t tree dropped (checks t (length dropped)) refl e
+
+  -- dropped rows rise by token
+  pub dropped-rise : Rises (t .tokens) 0 droppedRows
+  dropped-rise = rises each-token 0 (le-refl 0)
+
+  -- "put the dropped texts back among the leaf texts where the dropped list says: the token texts return, joined in order"
+  pub texts-return : putBack (t .text) (t .tokens) treeRows droppedRows ≡ tokenTexts (t .text) (t .tokens)
+  texts-return = rw sub-zero at (put-back (t .text) (t .tokens) each-token)
+
+-- two accepted inputs
+module _ (t : Tables) (tree dropped : List ℕ) (rows drops : ℕ) (e : run t tree dropped .answer ≡ accepted rows drops) where
+  module _ (t′ : Tables) (tree′ dropped′ : List ℕ) (rows′ drops′ : ℕ) (e′ : run t′ tree′ dropped′ .answer ≡ accepted rows′ drops′) where
+    -- with the same leaf texts and the same dropped list with its texts
+    module _ (leaf-texts : leafTexts (t .text) (treeRows t tree dropped rows drops e) ≡ leafTexts (t′ .text) (treeRows t′ tree′ dropped′ rows′ drops′ e′)) (dropped-texts : droppedTexts (t .text) (t .tokens) (droppedRows t tree dropped rows drops e) ≡ droppedTexts (t′ .text) (t′ .tokens) (droppedRows t′ tree′ dropped′ rows′ drops′ e′)) where
+      pub same-texts : tokenTexts (t .text) (t .tokens) ≡ tokenTexts (t′ .text) (t′ .tokens)
+      same-texts = sym (texts-return t tree dropped rows drops e) ∙ ap₂ (among 0) leaf-texts dropped-texts ∙ texts-return t′ tree′ dropped′ rows′ drops′ e′
