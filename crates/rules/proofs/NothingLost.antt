@@ -12,7 +12,7 @@ use Rattle.rules.specs.Flat.{Built, Mark, flat, empty}
 use Rattle.rules.specs.Limits.{treeWidth, droppedWidth}
 use Rattle.rules.specs.Outcome.{Out, went, refused}
 use Rattle.rules.specs.Position.{Pos}
-use Rattle.rules.specs.PutBack.{rowsOf, leaves, leafTexts, droppedTexts, among, putBack, tokenTexts, EachToken, Rises}
+use Rattle.rules.specs.PutBack.{treeRows, droppedRows, leaves, Stored, stored, putBack, tokenTexts, EachToken, Rises}
 use Rattle.rules.specs.Reading.{parse}
 use Rattle.rules.specs.Run.{Answer, accepted, refusedAt, Ran, over, afterReading, afterChecks, run}
 use Rattle.rules.specs.Tables.{tokenCount}
@@ -35,7 +35,7 @@ sound t dropped passed =
 -- of rows in both buffers, with what was there before behind them
 module _ (t : Tables) (tree dropped : List ℕ) where
   abbrev Told : ℕ → ℕ → List ℕ → List ℕ → Type 0
-  Told rows drops tree dropped = EachToken (t .tokens) 0 0 (leaves (rowsOf treeWidth rows tree)) (rowsOf droppedWidth drops dropped)
+  Told rows drops tree dropped = EachToken (t .tokens) 0 0 (leaves (treeRows rows tree)) (droppedRows drops dropped)
 
   told : (b : Built) → HasRead (sourceOf t) b (record { token = tokenCount (t .tokens); taken = 0 })
       → Told (b .tree .rows) (length (b .dropped) / droppedWidth) (over (b .tree .tree) tree) (over (b .dropped) dropped)
@@ -61,31 +61,27 @@ module _ (t : Tables) (tree dropped : List ℕ) where
 
 -- ---- the theorems
 
-module _ (t : Tables) (tree dropped : List ℕ) (rows drops : ℕ) (e : run t tree dropped .answer ≡ accepted rows drops) where
-  -- the rows that an accepted run says it wrote
-  abbrev treeRows : List (List ℕ)
-  treeRows = rowsOf treeWidth rows (run t tree dropped .tree)
-
-  abbrev droppedRows : List (List ℕ)
-  droppedRows = rowsOf droppedWidth drops (run t tree dropped .dropped)
-
+module _ (t : Tables) (tree dropped : List ℕ) {rows drops : ℕ} (e : run t tree dropped .answer ≡ accepted rows drops) where
   -- each token is a leaf, the parts of a split Word, or one dropped row, exactly once
-  pub each-token : EachToken (t .tokens) 0 0 (leaves treeRows) droppedRows
+  pub each-token : EachToken (t .tokens) 0 0 (leaves (treeRows rows (run t tree dropped .tree))) (droppedRows drops (run t tree dropped .dropped))
   unfolding run
   each-token = after-checks t tree dropped (checks t (length dropped)) refl e
 
   -- dropped rows rise by token
-  pub dropped-rise : Rises (t .tokens) 0 droppedRows
+  pub dropped-rise : Rises (t .tokens) 0 (droppedRows drops (run t tree dropped .dropped))
   dropped-rise = rises each-token 0 (le-refl 0)
 
-  -- "put the dropped texts back among the leaf texts where the dropped list says: the token texts return, joined in order"
-  pub texts-return : putBack (t .text) (t .tokens) treeRows droppedRows ≡ tokenTexts (t .text) (t .tokens)
+  -- what can be stored of the rows that the run says it wrote
+  abbrev pub storedOf : Stored
+  storedOf = stored (t .text) (t .tokens) (treeRows rows (run t tree dropped .tree)) (droppedRows drops (run t tree dropped .dropped))
+
+  -- "In every accepted run, put the dropped texts back among the leaf texts where the dropped list says: the token texts return, joined in order."
+  pub texts-return : putBack storedOf ≡ tokenTexts (t .text) (t .tokens)
   texts-return = rw sub-zero at (put-back (t .text) (t .tokens) each-token)
 
--- two accepted inputs
-module _ (t : Tables) (tree dropped : List ℕ) (rows drops : ℕ) (e : run t tree dropped .answer ≡ accepted rows drops) where
-  module _ (t′ : Tables) (tree′ dropped′ : List ℕ) (rows′ drops′ : ℕ) (e′ : run t′ tree′ dropped′ .answer ≡ accepted rows′ drops′) where
-    -- with the same leaf texts and the same dropped list with its texts
-    module _ (leaf-texts : leafTexts (t .text) (treeRows t tree dropped rows drops e) ≡ leafTexts (t′ .text) (treeRows t′ tree′ dropped′ rows′ drops′ e′)) (dropped-texts : droppedTexts (t .text) (t .tokens) (droppedRows t tree dropped rows drops e) ≡ droppedTexts (t′ .text) (t′ .tokens) (droppedRows t′ tree′ dropped′ rows′ drops′ e′)) where
-      pub same-texts : tokenTexts (t .text) (t .tokens) ≡ tokenTexts (t′ .text) (t′ .tokens)
-      same-texts = sym (texts-return t tree dropped rows drops e) ∙ ap₂ (among 0) leaf-texts dropped-texts ∙ texts-return t′ tree′ dropped′ rows′ drops′ e′
+-- "So two accepted inputs whose joined texts differ never share tree, leaf texts and dropped list with its texts."
+pub never-share : (t t′ : Tables) (tree dropped tree′ dropped′ : List ℕ) {rows drops rows′ drops′ : ℕ} (e : run t tree dropped .answer ≡ accepted rows drops) (e′ : run t′ tree′ dropped′ .answer ≡ accepted rows′ drops′)
+    → (tokenTexts (t .text) (t .tokens) ≡ tokenTexts (t′ .text) (t′ .tokens) → ⊥)
+    → storedOf t tree dropped e ≡ storedOf t′ tree′ dropped′ e′
+    → ⊥
+never-share t t′ tree dropped tree′ dropped′ e e′ differ same = differ (sym (texts-return t tree dropped e) ∙ ap putBack same ∙ texts-return t′ tree′ dropped′ e′)

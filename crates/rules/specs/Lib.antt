@@ -22,3 +22,4 @@ pub mod Questions
 pub mod Rowan
 pub mod PutBack
 pub mod Cases
+pub mod PutBackCases

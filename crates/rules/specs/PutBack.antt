@@ -7,46 +7,66 @@ use mathlib.Core.List.{List, [], _∷_, _++_, map}
 use lib.Dec.{eqb}
 use lib.ListN.{length, getD, take, drop}
 use Rattle.rules.specs.Flat.{tagLeaf, droppedRow}
+use Rattle.rules.specs.Limits
 use Rattle.rules.specs.Tables.{tokenCount, kindAt, startAt, lengthAt, part}
 use Rattle.rules.specs.Token
 
--- so many rows of a buffer, each a list of its numbers; what stands behind them is no part of them
+-- so many rows of a buffer, each a list of its numbers: what stands behind them in the buffer is no part of them
 abbrev pub rowsOf : ℕ → ℕ → List ℕ → List (List ℕ)
 rowsOf width zero buffer = []
 rowsOf width (suc n) buffer = take width buffer ∷ rowsOf width n (drop width buffer)
+
+-- "Success gives both row counts": the rows of the tree buffer and of the dropped buffer by these counts
+abbrev pub treeRows : ℕ → List ℕ → List (List ℕ)
+treeRows rows buffer = rowsOf Limits.treeWidth rows buffer
+
+abbrev pub droppedRows : ℕ → List ℕ → List (List ℕ)
+droppedRows drops buffer = rowsOf Limits.droppedWidth drops buffer
 
 -- "Tree row: tag (0 start, 1 leaf, 2 finish), kind, start, length": start and length of each leaf, in row order
 abbrev pub leaves : List (List ℕ) → List (ℕ × ℕ)
 leaves [] = []
 leaves (row ∷ rows) = cond (eqb (getD row 0 0) tagLeaf) ((getD row 2 0, getD row 3 0) ∷ leaves rows) (leaves rows)
 
--- the leaf texts
+-- the text of each leaf
 abbrev pub textsOf : List ℕ → List (ℕ × ℕ) → List (List ℕ)
 textsOf text leaves = map (λ (l : ℕ × ℕ). part text (l .0) (l .1)) leaves
-
-abbrev pub leafTexts : List ℕ → List (List ℕ) → List (List ℕ)
-leafTexts text tree = textsOf text (leaves tree)
 
 abbrev pub tokenText : List ℕ → List ℕ → ℕ → List ℕ
 tokenText text tokens i = part text (startAt tokens i) (lengthAt tokens i)
 
--- "Dropped row: token index, reason (1 trivia, 2 opener, 3 closer), leaves written before it": of each the leaves written before it, and its token's text
-abbrev pub droppedTexts : List ℕ → List ℕ → List (List ℕ) → List (ℕ × List ℕ)
-droppedTexts text tokens dropped = map (λ (row : List ℕ). (getD row 2 0, tokenText text tokens (getD row 0 0))) dropped
+-- "Dropped row: token index, reason (1 trivia, 2 opener, 3 closer), leaves written before it.": each dropped row, and its token's text
+abbrev pub withTexts : List ℕ → List ℕ → List (List ℕ) → List (List ℕ × List ℕ)
+withTexts text tokens dropped = map (λ (row : List ℕ). (row, tokenText text tokens (getD row 0 0))) dropped
 
--- the dropped texts before which so many leaves were written, joined
-abbrev pub droppedAfter : ℕ → List (ℕ × List ℕ) → List ℕ
+-- "tree, leaf texts and dropped list with its texts": what can be stored of a run's rows where neither the text nor the token rows are kept
+pub record Stored : Type 0 where
+  -- tag and kind of each row
+  pub tree : List (ℕ × ℕ)
+  pub leafTexts : List (List ℕ)
+  pub dropped : List (List ℕ × List ℕ)
+
+abbrev pub stored : List ℕ → List ℕ → List (List ℕ) → List (List ℕ) → Stored
+stored text tokens tree dropped =
+    record {
+      tree = map (λ (row : List ℕ). (getD row 0 0, getD row 1 0)) tree;
+      leafTexts = textsOf text (leaves tree);
+      dropped = withTexts text tokens dropped;
+    }
+
+-- the texts of the dropped rows that say so many leaves were written before them, joined
+abbrev pub droppedAfter : ℕ → List (List ℕ × List ℕ) → List ℕ
 droppedAfter k [] = []
-droppedAfter k (d ∷ ds) = cond (eqb (d .0) k) (d .1) [] ++ droppedAfter k ds
+droppedAfter k (d ∷ ds) = cond (eqb (getD (d .0) 2 0) k) (d .1) [] ++ droppedAfter k ds
 
--- from the k-th leaf on: before each leaf's text the dropped texts whose count of leaves stands there
-abbrev pub among : ℕ → List (List ℕ) → List (ℕ × List ℕ) → List ℕ
-among k [] dropped = droppedAfter k dropped
-among k (leaf ∷ more) dropped = droppedAfter k dropped ++ (leaf ++ among (k + 1) more dropped)
+-- from the k-th leaf on: before each leaf's text those of the dropped rows whose count of leaves stands there, and behind the last leaf's text the others
+abbrev pub backFrom : ℕ → List (List ℕ) → List (List ℕ × List ℕ) → List ℕ
+backFrom k [] dropped = droppedAfter k dropped
+backFrom k (leaf ∷ more) dropped = droppedAfter k dropped ++ (leaf ++ backFrom (k + 1) more dropped)
 
--- "put the dropped texts back among the leaf texts where the dropped list says", for rows of a tree and dropped rows
-abbrev pub putBack : List ℕ → List ℕ → List (List ℕ) → List (List ℕ) → List ℕ
-putBack text tokens tree dropped = among 0 (leafTexts text tree) (droppedTexts text tokens dropped)
+-- "put the dropped texts back among the leaf texts where the dropped list says"
+abbrev pub putBack : Stored → List ℕ
+putBack s = backFrom 0 (s .leafTexts) (s .dropped)
 
 -- "the token texts .., joined in order": of so many tokens, from one on
 abbrev pub textsFrom : List ℕ → List ℕ → ℕ → ℕ → List ℕ

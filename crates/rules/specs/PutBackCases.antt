@@ -1,0 +1,33 @@
+-- The formulas of `Cases`, put back: one theorem over that table that antt computes. Among them `\f 1 ^c`, of which a blank is dropped before its argument, and
+-- `\iffalse a\if b\fi c\fi d`, of which the opener and the closer are.
+use mathlib.Core.Path.{_≡_, refl}
+use mathlib.Core.List.{List, [], map}
+use Prim.Native.Nat.{ℕ}
+use Rattle.rules.specs.Cases.{Case, Expected, gives, refuses, ran, cases}
+use Rattle.rules.specs.Characters as Characters
+use Rattle.rules.specs.Checks as Checks
+use Rattle.rules.specs.Cursor as Cursor
+use Rattle.rules.specs.Flat as Flat
+use Rattle.rules.specs.Items as Items
+use Rattle.rules.specs.Kinds as Kinds
+use Rattle.rules.specs.Matcher as Matcher
+use Rattle.rules.specs.Position as Position
+use Rattle.rules.specs.PutBack.{treeRows, droppedRows, stored, putBack, tokenTexts}
+use Rattle.rules.specs.Reading as Reading
+use Rattle.rules.specs.Routines as Routines
+use Rattle.rules.specs.Run as Run
+use Rattle.rules.specs.Run.{Answer, accepted, refusedAt, Ran}
+use Rattle.rules.specs.Scope as Scope
+
+-- what putting back gives of a run that was accepted; of another nothing
+abbrev pub backOf : Case → Ran → Answer → List ℕ
+backOf c r (accepted rows drops) = putBack (stored (c .text) (c .tokens) (treeRows rows (r .tree)) (droppedRows drops (r .dropped)))
+backOf c r (refusedAt number place) = []
+
+abbrev pub wantedBack : Case → Expected → List ℕ
+wantedBack c (gives tree dropped) = tokenTexts (c .text) (c .tokens)
+wantedBack c (refuses number place) = []
+
+examples : map (λ (c : Case). backOf c (ran c) (ran c .answer)) cases ≡ map (λ (c : Case). wantedBack c (c .expected)) cases
+unfolding Scope.stops Kinds.isTrivia Kinds.isTextComponent Kinds.leafKind Characters.charLength Characters.characters Characters.isUtf8 Cursor.peek Cursor.restStart Cursor.restLength Cursor.peekText Cursor.consumed Cursor.left Matcher.startMatch Matcher.tryMatch Matcher.matchAsTerm Flat.leafed Flat.leaf Flat.started Flat.start Flat.finished Flat.finish Flat.startAtRow Flat.startedAt Flat.startAt Flat.wrap Position.steps Position.wrap Items.attachable Items.greedyStops Items.choose Routines.eatAs Routines.eat Routines.eatIf Routines.eatWhile Routines.trivia Routines.singleChar Routines.oneIn Routines.dropFrom Routines.ignoreHoldingTrivia Routines.leavesFrom Routines.extractHoldingTrivia Routines.text Routines.delimiter Routines.clauseLr Routines.dropNext Routines.eatBodyOfIfs Routines.skippedBody Routines.startCommandAt Reading.items Reading.itemList Reading.itemGroup Reading.piece Reading.argument Reading.arguments Reading.matchArguments Reading.greedyArgument Reading.commandNode Reading.commandOf Reading.environmentArguments Reading.beginClause Reading.endClause Reading.environmentItem Reading.rightClause Reading.itemLr Reading.script Reading.attachmentNode Reading.attachTo Reading.attachComponent Reading.readItem Reading.content Reading.contentAt Reading.parse Checks.firstBad Checks.withinLimits Checks.wordRight Checks.tokenRight Checks.valueRight Checks.shapeRight Checks.stateRight Checks.shapeOrStateRight Checks.checks Checks.shapeOf Run.run
+examples = refl
