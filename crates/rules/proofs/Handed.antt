@@ -177,7 +177,7 @@ module _ {B : Builder} {source : Source} (K : Handed B source) (sound : Sound so
   unfolding eatIf
   eatIf-if kind p on = cond-if (next B source (eqb kind) p) (λ e. eat-if p (wider on) (seen source (eqb kind) (p .lexer) e .0)) (λ _. goes on)
 
-  eatWhile-if : (test : ℕ → Bool) (turns : ℕ) (p : At B) {n : ℕ} → Free n p → IfWent (Free n) (eatWhile B source test turns p)
+  pub eatWhile-if : (test : ℕ → Bool) (turns : ℕ) (p : At B) {n : ℕ} → Free n p → IfWent (Free n) (eatWhile B source test turns p)
   unfolding eatWhile
   eatWhile-if test zero p on = goes on
   eatWhile-if test (suc turns) p on =
@@ -260,11 +260,15 @@ module _ {B : Builder} {source : Source} (K : Handed B source) (sound : Sound so
       record { read = at-token (p .lexer) _ up whole (dropFrom-read (place B p - p .held) (p .held) (p .built) read (omega arith)); stands = stands; bound = bound }
 
   -- one more is held
-  pub hold-held : {n : ℕ} (p : At B) → Held n p → There source (p .lexer) → p .lexer .taken ≡ 0 → Held n (holdTrivia B source p)
+  pub hold-held : {n : ℕ} (p : At B) → Held (suc n) p → There source (p .lexer) → p .lexer .taken ≡ 0 → Held n (holdTrivia B source p)
   hold-held p (nothing-held e on) there whole =
       some-held (omega arith) refl (rw (e, sym whole) (on .read)) (next-stands sound (p .lexer) there) (let less = next-less sound (p .lexer) there (on .stands) in let bound = on .bound in omega arith)
   hold-held p (some-held less whole′ read stands bound) there whole =
       some-held (omega arith) refl read (next-stands sound (p .lexer) there) (let less = next-less sound (p .lexer) there stands in omega arith)
+
+  pub wider-held : {n : ℕ} {c : Cursor} {h : ℕ} {b : B .State} → Holding n c h b → Holding (suc n) c h b
+  wider-held (nothing-held e on) = nothing-held e (wider on)
+  wider-held (some-held less whole read stands bound) = some-held less whole read stands (omega arith)
 
   wholes : (at i : ℕ) {b : B .State} → K .Read b (record { token = i; taken = 0 }) → i < tokenCount (source .tokens)
       → IfWent (λ b. K .Read b (record { token = i + 1; taken = 0 }))
@@ -330,7 +334,7 @@ module _ {B : Builder} {source : Source} (K : Handed B source) (sound : Sound so
         bound = let less = next-less sound (p .lexer) there (on .stands) in let bound = on .bound in omega arith;
       })
 
-  eatBodyOfIfs-if : (turns nested : ℕ) (p : At B) {n : ℕ} → Free n p → IfWent (Free n) (eatBodyOfIfs B source turns nested p)
+  pub eatBodyOfIfs-if : (turns nested : ℕ) (p : At B) {n : ℕ} → Free n p → IfWent (Free n) (eatBodyOfIfs B source turns nested p)
   unfolding eatBodyOfIfs
   eatBodyOfIfs-if zero nested p on = goes on
   eatBodyOfIfs-if (suc turns) nested p on =

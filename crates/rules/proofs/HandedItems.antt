@@ -25,7 +25,7 @@ use Rattle.rules.specs.Scope.{Scope, stops, among}
 use Rattle.rules.specs.SyntaxKind
 use Rattle.rules.specs.Tables.{tokenCount, kindAt}
 use Rattle.rules.specs.Token
-use Rattle.rules.proofs.Handed.{IfWent, goes, stopped, then-if, cond-if, last-if, Handed, seen, On, Free, wider, opened-then, start!, finish-if, closes, wrap!, startCommandAt!, eat-if, eatIf-if, trivia-if, singleChar-if, oneIn-if, Holding, nothing-held, some-held, Held, ignore-on, hold-held, extract-if, text-if, clauseLr-if, skippedBody-if}
+use Rattle.rules.proofs.Handed.{IfWent, goes, stopped, then-if, cond-if, last-if, Handed, seen, On, Free, wider, opened-then, start!, finish-if, closes, wrap!, startCommandAt!, eat-if, eatIf-if, trivia-if, singleChar-if, oneIn-if, Holding, nothing-held, some-held, Held, ignore-on, hold-held, wider-held, extract-if, text-if, clauseLr-if, skippedBody-if}
 use Rattle.rules.proofs.Progress.{at-end, end-whole, other-whole}
 use Rattle.rules.proofs.Reached.{Sound, There, AtWord, Standing}
 
@@ -42,13 +42,13 @@ trivia-no-word kind e is = false≢true (rw is at e)
 module _ (source : Source) where
   -- ---- how the next argument may be read
 
-  data Suits (c : Cursor) : Piece → Type 0 where
+  pub data Suits (c : Cursor) : Piece → Type 0 where
     a-character : AtWord source c → Suits c character
     a-group : {scope : Scope} → Suits c (within scope)
     a-brace : Suits c brace
     an-item : Suits c item
 
-  data Fits (c : Cursor) : Choice → Type 0 where
+  pub data Fits (c : Cursor) : Choice → Type 0 where
     an-end : Fits c ends
     trivia : There source c → (AtWord source c → ⊥) → Fits c holds
     an-argument : {what : Piece} {m : Matcher} → There source c → Suits c what → Fits c (takes what m)
@@ -105,11 +105,11 @@ module _ (source : Source) where
 
 module _ {B : Builder} {source : Source} (K : Handed B source) (sound : Sound source) where
   -- what reads an item: if a token is next, less is left behind it
-  record Reads (i : Bool → Rule B) : Type 0 where
-    some : (single : Bool) (p : At B) {n : ℕ} → Free K sound (suc n) p → There source (p .lexer) → IfWent (Free K sound n) (i single p)
-    any : (single : Bool) (p : At B) {n : ℕ} → Free K sound n p → IfWent (Free K sound n) (i single p)
+  pub record Reads (i : Bool → Rule B) : Type 0 where
+    pub some : (single : Bool) (p : At B) {n : ℕ} → Free K sound (suc n) p → There source (p .lexer) → IfWent (Free K sound n) (i single p)
+    pub any : (single : Bool) (p : At B) {n : ℕ} → Free K sound n p → IfWent (Free K sound n) (i single p)
 
-  stands-of : {n : ℕ} {c : Cursor} {h : ℕ} {b : B .State} → Holding K sound n c h b → Standing source c
+  pub stands-of : {n : ℕ} {c : Cursor} {h : ℕ} {b : B .State} → Holding K sound n c h b → Standing source c
   stands-of (nothing-held e on) = on .stands
   stands-of (some-held less whole read stands bound) = stands
 
@@ -148,19 +148,19 @@ module _ {B : Builder} {source : Source} (K : Handed B source) (sound : Sound so
     piece-if brace p on there a-brace = eat-if K sound p on there
     piece-if item p on there an-item = inner .some false p on there
 
-    argument-if : (what : Piece) (p : At B) {n : ℕ} → Held K sound n p → There source (p .lexer) → Suits source (p .lexer) what → IfWent (Held K sound n) (argument B source i what p)
+    pub argument-if : (what : Piece) (p : At B) {n : ℕ} → Held K sound (suc n) p → There source (p .lexer) → Suits source (p .lexer) what → IfWent (Held K sound n) (argument B source i what p)
     unfolding argument ignoreHoldingTrivia steps
     argument-if what p held there suits =
-        opened-then K sound _ (start! K sound SyntaxKind.ClauseArgument _ (ignore-on K sound p held)) (λ b on. then-if (piece-if what _ (wider K sound on) there suits)
+        opened-then K sound _ (start! K sound SyntaxKind.ClauseArgument _ (ignore-on K sound p held)) (λ b on. then-if (piece-if what _ on there suits)
         (λ q on. then-if (finish-if K sound SyntaxKind.ClauseArgument _ q on) (λ q on. goes (nothing-held refl on))))
 
     module _ (more : Matcher → Rule B) {n : ℕ} (goesOn : (m : Matcher) (p : At B) → Held K sound n p → IfWent (Held K sound n) (more m p)) where
       chosen-if : (choice : Choice) (m : Matcher) (p : At B) → Held K sound n p → Fits source (p .lexer) choice → IfWent (Held K sound n) (chosen B source i more choice m p)
       chosen-if ends m p held an-end = goes held
-      chosen-if holds m p held (trivia there other) = goesOn m (holdTrivia B source p) (hold-held K sound p held there (other-whole sound (p .lexer) (stands-of held) other))
-      chosen-if (takes what next) m p held (an-argument there suits) = then-if (argument-if what p held there suits) (λ q held. goesOn next q held)
+      chosen-if holds m p held (trivia there other) = goesOn m (holdTrivia B source p) (hold-held K sound p (wider-held K sound held) there (other-whole sound (p .lexer) (stands-of held) other))
+      chosen-if (takes what next) m p held (an-argument there suits) = then-if (argument-if what p (wider-held K sound held) there suits) (λ q held. goesOn next q held)
 
-    choice-fits : (t : Bool) (m : Matcher) (p : At B) → ltb (p .lexer .token) (tokenCount (source .tokens)) ≡ t
+    pub choice-fits : (t : Bool) (m : Matcher) (p : At B) → ltb (p .lexer .token) (tokenCount (source .tokens)) ≡ t
         → Fits source (p .lexer) (choiceFor B source i (cond t (some (kindAt (source .tokens) (p .lexer .token))) none) m p)
     choice-fits true m p e = choose-fits source (p .lexer) (p .list .scope) m _ (ltb-true _ _ e) refl
     choice-fits false m p e = an-end
@@ -312,7 +312,7 @@ module _ {B : Builder} {source : Source} (K : Handed B source) (sound : Sound so
 
   -- ---- the knot
 
-  contentAt-reads : (d : ℕ) → Reads (contentAt B source d)
+  pub contentAt-reads : (d : ℕ) → Reads (contentAt B source d)
   unfolding contentAt
   contentAt-reads zero = record { some = λ single p on there. stopped tooManyOpen (place B p); any = λ single p on. stopped tooManyOpen (place B p) }
   contentAt-reads (suc d) = record { some = content-some (contentAt-reads d); any = content-any (contentAt-reads d) }

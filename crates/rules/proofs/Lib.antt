@@ -18,3 +18,4 @@ pub mod Room
 pub mod Sim
 pub mod Simulation
 pub mod Table
+pub mod Turns
