@@ -1,23 +1,23 @@
 -- What a builder is handed, in order, are the tokens: a predicate of its state says how far, its operations keep it, and so do the routines that read no item
 -- inside another. Outside arguments all is handed over up to the cursor, inside them up to the first token that is held. Assumes nothing.
 use Prim.Native.Nat.{ℕ, zero, suc, _+_, _-_, _≤_, _<_}
-use mathlib.Core.Path.{_≡_, refl, sym, ap, subst, _∙_}
+use mathlib.Core.Path.{_≡_, refl, sym, subst, _∙_}
 use mathlib.Core.Bool.{Bool, true, false, cond, false≢true}
-use mathlib.Core.List.{List, [], _∷_}
+use mathlib.Core.List.{[], _∷_}
 use mathlib.Core.Option.{Option, none, some}
 use native.Mathlib.Omega.{arith}
 use native.Mathlib.Nat.{add-zero}
 use lib.Dec.{eqb, leb, ltb}
-use borrow.Author.Tests.{ltb-true, ltb-false, leb-true, leb-false, eqb-true}
-use Rattle.rules.specs.Builder.{Builder, Leaf}
+use borrow.Author.Tests.{ltb-true, leb-true, leb-false, eqb-true}
+use Rattle.rules.specs.Builder.{Builder}
 use Rattle.rules.specs.Characters.{charLength}
 use Rattle.rules.specs.Cursor.{Cursor, peek, restStart, restLength, peekText, eaten, consumed, left}
 use Rattle.rules.specs.Flat.{reasonTrivia, reasonOpener, reasonCloser}
 use Rattle.rules.specs.Items.{isCommandName, isIf}
 use Rattle.rules.specs.Kinds.{isTrivia, isTextComponent, leafKind}
 use Rattle.rules.specs.Outcome.{Out, went, refused, bind}
-use Rattle.rules.specs.Position.{Source, At, steps, asked, place, withBuilt, withLexer, building, holdingNone, leaf, start, startAt, finish, wrap}
-use Rattle.rules.specs.Routines.{next, turns, eatAs, eat, eatIf, eatWhile, trivia, singleChar, oneIn, holdTrivia, dropFrom, ignoreHoldingTrivia, leavesFrom, extractHoldingTrivia, text, delimiterOf, delimiter, clauseLr, dropNext, eatBodyOfIfs, skippedBody, startCommandAt}
+use Rattle.rules.specs.Position.{Source, At, steps, asked, place, withBuilt, building, leaf, start, startAt, finish, wrap}
+use Rattle.rules.specs.Routines.{next, turns, eatAs, eat, eatIf, eatWhile, trivia, singleChar, oneIn, holdTrivia, dropFrom, leavesFrom, extractHoldingTrivia, text, delimiterOf, delimiter, clauseLr, dropNext, eatBodyOfIfs, skippedBody, startCommandAt}
 use Rattle.rules.specs.SyntaxKind
 use Rattle.rules.specs.Tables.{tokenCount, kindAt, lengthAt}
 use Rattle.rules.specs.Tables

@@ -1,25 +1,25 @@
 -- What a builder is handed by the routines that read items inside items are the tokens, in order; each item leaves less to read, so the root's list goes to the
 -- last token: one induction over the knot. Assumes nothing.
-use Prim.Native.Nat.{ℕ, zero, suc, _+_, _-_, _≤_, _<_}
-use mathlib.Core.Path.{_≡_, refl, sym, ap, _∙_}
-use mathlib.Core.Bool.{Bool, true, false, cond, _||_, _&&_, false≢true}
-use mathlib.Core.List.{List, [], _∷_}
+use Prim.Native.Nat.{ℕ, zero, suc, _≤_}
+use mathlib.Core.Path.{_≡_, refl, sym, _∙_}
+use mathlib.Core.Bool.{Bool, true, false, cond, false≢true}
+use mathlib.Core.List.{[], _∷_}
 use mathlib.Core.Option.{Option, none, some}
 use native.Mathlib.Omega.{arith}
 use native.Mathlib.Nat.{le-refl}
-use lib.Dec.{eqb, leb, ltb}
+use lib.Dec.{eqb, ltb}
 use borrow.Author.Tests.{ltb-true, ltb-false, lt-ltb, eqb-true}
 use Rattle.rules.specs.Builder.{Builder}
-use Rattle.rules.specs.Cursor.{Cursor, atStart, peek, eaten, left}
-use Rattle.rules.specs.Items.{Item, plain, error, word, comma, group, attachment, command, environment, leftRight, skipped, itemOf, groupKind, closer, Piece, character, within, brace, item, Choice, ends, holds, takes, ifTried, ifMatched, choose, greedyStops, nameOnly, classCommand, classEnvironment, ofClass}
+use Rattle.rules.specs.Cursor.{Cursor, atStart, peek}
+use Rattle.rules.specs.Items.{Item, plain, error, word, comma, group, attachment, command, environment, leftRight, skipped, itemOf, groupKind, closer, Piece, character, within, brace, item, Choice, ends, holds, takes, ifTried, ifMatched, choose, greedyStops, nameOnly, classCommand, classEnvironment}
 use Rattle.rules.specs.Kinds.{isTrivia}
 use Rattle.rules.specs.Limits
 use Rattle.rules.specs.Matcher.{Matcher, Tried, Matched, term, bracket, paren, tryMatch, matchAsTerm, startMatch, isGreedy, formLeft1, formInfixGreedy}
 use Rattle.rules.specs.Matcher
-use Rattle.rules.specs.Outcome.{Out, went, refused, bind, greedyEnvironment, tooManyOpen}
-use Rattle.rules.specs.Position.{Shape, Source, At, Rule, steps, asked, place, withBuilt, withList, withMarks, holdingNone, start, finish}
-use Rattle.rules.specs.Reading.{shapeHere, lastAfter, orElse, items, itemList, itemGroup, piece, argument, chosen, choiceFor, choiceAt, arguments, matchArguments, greedyArgument, commandNode, commandOf, environmentArguments, beginClause, endClause, environmentItem, rightClause, itemLr, script, attachmentNode, attachTo, attachComponent, readItem, contentFor, content, contentAt, parse}
-use Rattle.rules.specs.Routines.{next, turns, eat, eatIf, ignoreHoldingTrivia, holdTrivia, extractHoldingTrivia, startCommandAt}
+use Rattle.rules.specs.Outcome.{went, refused, greedyEnvironment, tooManyOpen}
+use Rattle.rules.specs.Position.{Shape, Source, At, Rule, steps, asked, place, withBuilt, start, finish}
+use Rattle.rules.specs.Reading.{shapeHere, lastAfter, orElse, items, itemList, itemGroup, piece, argument, chosen, choiceFor, arguments, matchArguments, greedyArgument, commandNode, commandOf, environmentArguments, beginClause, endClause, environmentItem, rightClause, itemLr, script, attachmentNode, attachTo, attachComponent, readItem, contentFor, content, contentAt, parse}
+use Rattle.rules.specs.Routines.{next, turns, ignoreHoldingTrivia, holdTrivia}
 use Rattle.rules.specs.Scope
 use Rattle.rules.specs.Scope.{Scope, stops, among}
 use Rattle.rules.specs.SyntaxKind

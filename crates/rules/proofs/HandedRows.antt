@@ -1,13 +1,12 @@
 -- The flat builder's leaf rows and dropped rows are what it was handed, in order: rows are only added behind others, or, at a wrap, start rows put in between.
 -- Assumes nothing.
-use Prim.Native.Nat.{ℕ, zero, suc, _+_, _*_, _-_, _/_, _≤_, _<_}
+use Prim.Native.Nat.{ℕ, zero, suc, _+_, _*_, _-_, _/_, _≤_}
 use mathlib.Core.Path.{_≡_, refl, sym, ap, ap₂, _∙_}
-use mathlib.Core.Bool.{Bool, true, false, cond}
 use mathlib.Core.List.{List, [], _∷_, _++_, append-nil}
 use native.Mathlib.Omega.{arith}
 use native.Mathlib.Nat.{add-zero, zero-add, suc-add, zero-mul, suc-mul}
 use lib.Dec.{eqb, leb, ltb}
-use lib.ListN.{length, getD, take, drop, length-append, length-drop, length-take, take-append-drop, drop-of-length-le}
+use lib.ListN.{length, getD, take, drop, length-append, length-drop, take-append-drop, drop-of-length-le}
 use lib.Seq.{take-append-le, drop-append-le, length-take-le, take-all}
 use borrow.Author.Tests.{leb-true, leb-false}
 use Rattle.rules.specs.Builder.{Leaf}
@@ -15,7 +14,7 @@ use Rattle.rules.specs.Cursor.{Cursor, atStart, restStart, restLength, e
 use Rattle.rules.specs.Flat
 use Rattle.rules.specs.Flat.{Rows, Mark, Frame, Built, leafRow, startRow, finishRow, droppedRow, insert, onTree, flat, empty}
 use Rattle.rules.specs.Limits.{treeWidth, droppedWidth, nodes}
-use Rattle.rules.specs.Outcome.{Out, went, refused, markBeforeNode, tooManyOpen, noRoom}
+use Rattle.rules.specs.Outcome.{Out, went, markBeforeNode, tooManyOpen, noRoom}
 use Rattle.rules.specs.Position.{Source}
 use Rattle.rules.specs.PutBack.{rowsOf, leaves}
 use Rattle.rules.specs.Reading.{parse}
@@ -23,7 +22,7 @@ use Rattle.rules.specs.Tables.{tokenCount}
 use Rattle.rules.proofs.Characters.{either}
 use Rattle.rules.proofs.Handed.{IfWent, goes, stopped, cond-if, Handed}
 use Rattle.rules.proofs.HandedItems.{parse-reads}
-use Rattle.rules.proofs.Reached.{Sound, There, AtWord, Standing, Reached, nothing, takes-rest, takes-part, drops-it}
+use Rattle.rules.proofs.Reached.{Sound, There, Reached, nothing, takes-rest, takes-part, drops-it}
 
 -- ---- rows of a list of numbers
 

@@ -1,8 +1,8 @@
 -- Demand 3's first half, of every accepted run, on the buffers after it and the answer's counts: each token is a leaf, the parts of a split Word, or one dropped
 -- row; putting back gives the token texts; so inputs whose texts differ never share what is put together. What the checks and the reading tell. Assumes nothing.
-use Prim.Native.Nat.{ℕ, zero, suc, _+_, _*_, _/_, _≤_, _<_}
-use mathlib.Core.Path.{_≡_, refl, sym, ap, ap₂, subst, _∙_}
-use mathlib.Core.List.{List, [], _∷_, _++_}
+use Prim.Native.Nat.{ℕ, _/_}
+use mathlib.Core.Path.{_≡_, refl, sym, ap, _∙_}
+use mathlib.Core.List.{List}
 use mathlib.Core.Option.{Option, none, some}
 use native.Mathlib.Omega.{arith}
 use native.Mathlib.Nat.{le-refl, sub-zero}
@@ -14,16 +14,16 @@ use Rattle.rules.specs.Outcome.{Out, went, refused}
 use Rattle.rules.specs.Position.{Pos}
 use Rattle.rules.specs.PutBack.{treeRows, droppedRows, leaves, Stored, stored, putBack, tokenTexts, EachToken, Rises}
 use Rattle.rules.specs.Reading.{parse}
-use Rattle.rules.specs.Run.{Answer, accepted, refusedAt, Ran, over, afterReading, afterChecks, run}
+use Rattle.rules.specs.Run.{accepted, over, afterReading, afterChecks, run}
 use Rattle.rules.specs.Tables.{tokenCount}
 use Rattle.rules.proofs.Checks
-use Rattle.rules.proofs.Handed.{IfWent, goes, stopped}
+use Rattle.rules.proofs.Handed.{IfWent, goes}
 use Rattle.rules.proofs.HandedRows.{HasRead, rows-front, rows-read}
 use Rattle.rules.proofs.PutBack.{put-back, rises}
 use Rattle.rules.proofs.Reached.{Sound, all-told}
 
 -- tables that passed the checks
-sound : (t : Tables) (dropped : ℕ) → Checks.Accepted t dropped → Sound (sourceOf t)
+pub sound : (t : Tables) (dropped : ℕ) → Checks.Accepted t dropped → Sound (sourceOf t)
 sound t dropped passed =
     record {
       text = passed .limits .text;

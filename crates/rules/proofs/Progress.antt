@@ -1,23 +1,23 @@
 -- A step of the cursor: behind it the cursor stands before a token or in the middle of a Word, and less is left to read. A Word's characters have a byte or
 -- more each, and the last ends where the Word does. Assumes nothing.
-use Prim.Native.Nat.{ℕ, zero, suc, _+_, _*_, _-_, _≤_, _<_}
-use mathlib.Core.Path.{_≡_, refl, sym, ap, subst, _∙_}
-use mathlib.Core.Bool.{Bool, true, false, cond}
-use mathlib.Core.List.{List, [], _∷_, _++_}
+use Prim.Native.Nat.{ℕ, _+_, _-_, _≤_, _<_}
+use mathlib.Core.Path.{_≡_, sym, ap, _∙_}
+use mathlib.Core.Bool.{true}
+use mathlib.Core.List.{List}
 use native.Mathlib.Omega.{arith}
 use native.Mathlib.Nat.{add-zero, sub-zero}
-use lib.Dec.{eqb, leb}
-use lib.ListN.{length, take, drop, length-drop}
+use lib.Dec.{eqb}
+use lib.ListN.{length, drop, length-drop}
 use lib.Seq.{drop-at, length-take-le}
 use borrow.Author.Tests.{eqb-true, eqb-false}
 use Rattle.rules.specs.Characters.{charLength, isUtf8}
 use Rattle.rules.specs.Cursor.{Cursor, restStart, restLength, peekText, eaten, left}
 use Rattle.rules.specs.Limits
 use Rattle.rules.specs.Position.{Source}
-use Rattle.rules.specs.Tables.{tokenCount, kindAt, startAt, lengthAt, part}
+use Rattle.rules.specs.Tables.{tokenCount, startAt, lengthAt, part}
 use Rattle.rules.proofs.Characters.{either, char-fits, utf8-some, utf8-again}
 use Rattle.rules.proofs.PutBack.{part-add}
-use Rattle.rules.proofs.Reached.{Sound, There, AtWord, Midway, Standing}
+use Rattle.rules.proofs.Reached.{Sound, There, AtWord, Standing}
 
 part-length : (text : List ℕ) (start size : ℕ) → start + size ≤ length text → length (part text start size) ≡ size
 part-length text start size inside = let long = length-drop start text in length-take-le size (drop start text) (omega arith)

@@ -1,12 +1,10 @@
 -- Where each token is a leaf, the parts of a split Word or one dropped row, putting back gives the token texts, and dropped rows rise by token: by induction
 -- over the tokens. A dropped row is met before the next leaf is, and not again, as later places have larger counts. Assumes nothing.
-use Prim.Native.Nat.{ℕ, zero, suc, _+_, _-_, _≤_, _<_}
+use Prim.Native.Nat.{ℕ, suc, _+_, _-_, _≤_, _<_}
 use mathlib.Core.Path.{_≡_, refl, sym, ap, _∙_}
-use mathlib.Core.Bool.{Bool, true, false, cond}
-use mathlib.Core.List.{List, [], _∷_, _++_, map, append-assoc, append-nil}
+use mathlib.Core.List.{List, [], _∷_, _++_, append-assoc}
 use native.Mathlib.Omega.{arith}
 use native.Mathlib.Nat.{le-refl}
-use lib.Dec.{eqb}
 use lib.ListN.{length, getD, take, drop}
 use lib.Seq.{drop-drop, take-add}
 use borrow.Author.Tests.{eq-eqb, ne-eqb}

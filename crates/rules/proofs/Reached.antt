@@ -1,25 +1,24 @@
 -- How far reading has come, as leaves and dropped rows: a cursor stands before a token or in the middle of a Word, each leaf takes what is left of the token or
 -- a part of a Word, each dropped row a token. Read to the end, that is the statement token by token. Assumes nothing.
-use Prim.Native.Nat.{ℕ, zero, suc, _+_, _*_, _-_, _≤_, _<_}
-use mathlib.Core.Path.{_≡_, refl, sym, ap, subst, _∙_}
-use mathlib.Core.Bool.{Bool, true, false, cond}
+use Prim.Native.Nat.{ℕ, suc, _+_, _≤_, _<_}
+use mathlib.Core.Path.{_≡_}
+use mathlib.Core.Bool.{true}
 use mathlib.Core.List.{List, [], _∷_, _++_, append-nil}
 use native.Mathlib.Omega.{arith}
 use native.Mathlib.Nat.{add-zero, sub-zero}
-use lib.Dec.{eqb, leb}
-use lib.ListN.{length, take, drop, length-append, length-drop}
-use lib.Seq.{append-snoc, drop-at, length-take-le}
-use borrow.Author.Tests.{eqb-true, eqb-false, leb-true, leb-false}
-use Rattle.rules.specs.Characters.{charLength, isUtf8}
-use Rattle.rules.specs.Cursor.{Cursor, atStart, restStart, restLength, peekText, eaten, consumed, left}
+use lib.Dec.{eqb}
+use lib.ListN.{length, length-append}
+use lib.Seq.{append-snoc}
+use borrow.Author.Tests.{eqb-true, eqb-false}
+use Rattle.rules.specs.Characters.{isUtf8}
+use Rattle.rules.specs.Cursor.{Cursor, atStart, restStart, restLength, peekText, eaten}
 use Rattle.rules.specs.Flat.{droppedRow}
 use Rattle.rules.specs.Limits
 use Rattle.rules.specs.Position.{Source}
 use Rattle.rules.specs.PutBack.{Parts, last, more, EachToken, end, leaf, split, drops}
 use Rattle.rules.specs.Tables.{tokenCount, kindAt, startAt, lengthAt, part}
 use Rattle.rules.specs.Token
-use Rattle.rules.proofs.Characters.{either, char-fits, utf8-some, utf8-again}
-use Rattle.rules.proofs.PutBack.{part-add}
+use Rattle.rules.proofs.Characters.{either}
 
 -- what the checks tell of the tokens: each lies in the text, and a Word is some characters
 pub record Sound (source : Source) : Type 0 where

@@ -1,28 +1,27 @@
 -- No loop ends for want of turns: with as many turns as is left to read, or with more, each loop of the rules comes to the same. Each turn leaves less to read, and
 -- where nothing is left no turn is taken. For any builder, at any position whose cursor stands before a token or in the middle of a Word. Assumes nothing.
-use Prim.Native.Nat.{ℕ, zero, suc, _+_, _-_, _≤_, _<_}
-use mathlib.Core.Path.{_≡_, refl, sym, ap, _∙_}
+use Prim.Native.Nat.{ℕ, zero, suc, _+_, _-_, _≤_}
+use mathlib.Core.Path.{_≡_, refl}
 use mathlib.Core.Bool.{Bool, true, false, cond}
-use mathlib.Core.Option.{Option, none, some}
+use mathlib.Core.Option.{none, some}
 use native.Mathlib.Omega.{arith}
 use native.Mathlib.Nat.{le-refl}
 use lib.Dec.{eqb, ltb}
 use borrow.Author.Tests.{le-ltb}
 use Rattle.rules.specs.Builder.{Builder}
 use Rattle.rules.specs.Cursor.{Cursor, peek, left}
-use Rattle.rules.specs.Flat.{reasonCloser}
 use Rattle.rules.specs.Items.{isIf, Choice, ends, holds, takes}
 use Rattle.rules.specs.Matcher.{Matcher}
 use Rattle.rules.specs.Outcome.{Out, went, refused, bind}
-use Rattle.rules.specs.Position.{Source, At, Rule, asked, place}
-use Rattle.rules.specs.Reading.{lastAfter, items, chosen, choiceFor, choiceAt, arguments, contentAt}
-use Rattle.rules.specs.Routines.{next, turns, eat, eatWhile, dropNext, eatBodyOfIfs, holdTrivia}
-use Rattle.rules.specs.Tables.{tokenCount, kindAt}
+use Rattle.rules.specs.Position.{Source, At, Rule, place}
+use Rattle.rules.specs.Reading.{lastAfter, items, chosen, arguments, contentAt}
+use Rattle.rules.specs.Routines.{next, turns, eat, eatWhile, eatBodyOfIfs, holdTrivia}
+use Rattle.rules.specs.Tables.{tokenCount}
 use Rattle.rules.specs.Token
 use Rattle.rules.proofs.Handed.{IfWent, goes, stopped, Handed, seen, Free, Holding, Held, nothing-held, some-held, eat-if, hold-held}
 use Rattle.rules.proofs.HandedItems.{Fits, an-end, trivia, an-argument, Reads, stands-of, argument-if, choice-fits, contentAt-reads}
 use Rattle.rules.proofs.Progress.{at-end, other-whole}
-use Rattle.rules.proofs.Reached.{Sound, There, Standing}
+use Rattle.rules.proofs.Reached.{Sound, Standing}
 
 -- what follows an outcome matters only where it went on
 bind-same : {X Y : Type 0} {Q : X → Type 0} {o : Out X} (f g : X → Out Y) → IfWent Q o → ((x : X) → Q x → f x ≡ g x) → bind o f ≡ bind o g

@@ -59,7 +59,7 @@ abbrev pub droppedAfter : ℕ → List (List ℕ × List ℕ) → List ℕ
 droppedAfter k [] = []
 droppedAfter k (d ∷ ds) = cond (eqb (getD (d .0) 2 0) k) (d .1) [] ++ droppedAfter k ds
 
--- from the k-th leaf on: before each leaf's text those of the dropped rows whose count of leaves stands there, and behind the last leaf's text the others
+-- from the k-th leaf on: before each leaf's text those of the dropped rows whose count of leaves stands there, and likewise behind the last leaf's text
 abbrev pub backFrom : ℕ → List (List ℕ) → List (List ℕ × List ℕ) → List ℕ
 backFrom k [] dropped = droppedAfter k dropped
 backFrom k (leaf ∷ more) dropped = droppedAfter k dropped ++ (leaf ++ backFrom (k + 1) more dropped)
