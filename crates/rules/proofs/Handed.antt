@@ -87,10 +87,6 @@ module _ (source : Source) where
   unfolding peek
   seen test c e = seen-if test c (ltb (c .token) (tokenCount (source .tokens))) refl e
 
-  -- a kind that is not a Word's
-  pub no-word : (kind : ℕ) (c : Cursor) → kindAt (source .tokens) (c .token) ≡ kind → (kind ≡ Token.Word → ⊥) → AtWord source c → ⊥
-  no-word kind c e other word = other (sym e ∙ word)
-
 module _ {B : Builder} {source : Source} (K : Handed B source) (sound : Sound source) where
   -- all is handed over up to the cursor, and at most n is left to read
   pub record On (n : ℕ) (c : Cursor) (b : B .State) : Type 0 where
