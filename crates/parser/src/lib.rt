@@ -1,6 +1,7 @@
 // The cycle of calls: items inside items. Each member comes to what its rule says at every level that is enough for the nodes that may yet be opened.
 mod clauses;
 mod lists;
+mod root;
 
 ghost use mathlib.Core.Path.{_≡_};
 ghost use Rattle.rules.specs.Checks.{sourceOf};
@@ -38,6 +39,7 @@ use lists::last_after;
 use lists::more_items;
 use lists::new_list;
 use lists::new_marks;
+pub use root::parse;
 use routines::Mark;
 use routines::Parser;
 use routines::Step;

@@ -1,0 +1,37 @@
+// The whole run: the tables are checked, the tokens are read, and a refusal while reading leaves nothing in the lent buffers.
+use crate::clear::clear;
+use checks::Checked;
+use checks::check;
+use parser::parse;
+use routines::Step;
+
+// Accepted with the counts of tree rows and of dropped rows, or refused with a number and a place.
+pub enum Answer {
+    Accepted(usize, usize),
+    Refused(u32, usize),
+}
+
+// Text, tokens, shapes and states in; the tree's rows and the dropped rows into the lent buffers.
+// Refusals 1 to 4 write nothing, 5 to 8 leave zeros; behind the rows of an accepted run all is as it was.
+pub fn run(
+    text: &[u8],
+    tokens: &[u32],
+    shapes: &[u32],
+    states: &[u32],
+    tree: &mut [u32],
+    dropped: &mut [u32],
+) -> Answer {
+    let checked = check(text, tokens, shapes, states, dropped.len());
+    if let Checked::Refused(number, place) = checked {
+        return Answer::Refused(number, place);
+    }
+    let r = parse(text, tokens, shapes, states, tree, dropped);
+    match r {
+        Step::Went(p) => Answer::Accepted(p.builder.rows, p.dropped),
+        Step::Refused(number, place) => {
+            clear(tree);
+            clear(dropped);
+            Answer::Refused(number, place)
+        }
+    }
+}

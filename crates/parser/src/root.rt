@@ -1,0 +1,55 @@
+// The root: `parse`, which reads all tokens from nothing.
+use crate::item_list;
+use builder::GreenNodeBuilder;
+use lexer::Lexer;
+use routines::ListState;
+use routines::Mark;
+use routines::Parser;
+use routines::Step;
+use syntax::ParseScope;
+use syntax::SyntaxKind;
+
+// Before the first token: nothing is held, marked, built or dropped.
+fn at_start() -> Parser {
+    Parser {
+        lexer: Lexer::new(),
+        held: 0,
+        list: ListState {
+            scope: ParseScope::Root,
+            start: Mark::Nothing,
+            last: Mark::Nothing,
+        },
+        builder: GreenNodeBuilder::new(),
+        dropped: 0,
+    }
+}
+
+// The root, a list in it, its end.
+pub fn parse(
+    text: &[u8],
+    tokens: &[u32],
+    shapes: &[u32],
+    states: &[u32],
+    tree: &mut [u32],
+    dropped: &mut [u32],
+) -> Step {
+    let p = at_start();
+    let r = p.start_node(tree, SyntaxKind::SCOPE_ROOT);
+    let Step::Went(a) = r else {
+        return r;
+    };
+    let q = item_list(
+        text,
+        tokens,
+        shapes,
+        states,
+        tree,
+        dropped,
+        a,
+        ParseScope::Root,
+    );
+    let Step::Went(b) = q else {
+        return q;
+    };
+    b.finish_node(tree, SyntaxKind::SCOPE_ROOT, p.builder.frame())
+}
