@@ -7,3 +7,4 @@ pub mod Entry
 pub mod ItemLoop
 pub mod Marks
 pub mod WordLoop
+pub mod FromRoot

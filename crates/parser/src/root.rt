@@ -1,4 +1,7 @@
 // The root: `parse`, which reads all tokens from nothing.
+ghost use mathlib.Core.Path.{_≡_};
+ghost use Rattle.parser.specs.Member.{tables, buffers};
+ghost use Rattle.parser.specs.Root.{atRoot, Readable, Parsed};
 use crate::item_list;
 use builder::GreenNodeBuilder;
 use lexer::Lexer;
@@ -10,7 +13,9 @@ use syntax::ParseScope;
 use syntax::SyntaxKind;
 
 // Before the first token: nothing is held, marked, built or dropped.
-fn at_start() -> Parser {
+fn at_start() -> Parser
+    ensures { λ r. ⌜ r ≡ atRoot ⌝ }
+{
     Parser {
         lexer: Lexer::new(),
         held: 0,
@@ -32,7 +37,10 @@ pub fn parse(
     states: &[u32],
     tree: &mut [u32],
     dropped: &mut [u32],
-) -> Step {
+) -> Step
+    requires { ⌜ Readable (tables (now text) (now tokens) (now shapes) (now states)) (now dropped) ⌝ }
+    ensures { λ r. ⌜ Parsed (tables (now (text .entry)) (now (tokens .entry)) (now (shapes .entry)) (now (states .entry))) (buffers (now (tree .entry)) (now (dropped .entry))) r (buffers (now (tree .exit)) (now (dropped .exit))) ⌝ }
+{
     let p = at_start();
     let r = p.start_node(tree, SyntaxKind::SCOPE_ROOT);
     let Step::Went(a) = r else {
