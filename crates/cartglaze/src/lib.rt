@@ -1,6 +1,6 @@
 // The public face: the run, and the questions about the rows that it gives.
 mod clear;
-mod run;
+mod whole;
 
 pub use questions::LeafRange;
 pub use questions::is_display;
@@ -9,5 +9,5 @@ pub use questions::is_leaf;
 pub use questions::is_valid;
 pub use questions::leaf_range;
 pub use questions::leaf_text;
-pub use run::Answer;
-pub use run::run;
+pub use whole::Answer;
+pub use whole::run;

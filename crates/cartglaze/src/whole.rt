@@ -1,4 +1,8 @@
 // The whole run: the tables are checked, the tokens are read, and a refusal while reading leaves nothing in the lent buffers.
+ghost use mathlib.Core.Path.{_≡_};
+ghost use Rattle.rules.specs.Run.{run as runOf};
+ghost use Rattle.parser.specs.Member.{tables};
+ghost use Rattle.cartglaze.specs.Answers.{ranOf};
 use crate::clear::clear;
 use checks::Checked;
 use checks::check;
@@ -20,7 +24,9 @@ pub fn run(
     states: &[u32],
     tree: &mut [u32],
     dropped: &mut [u32],
-) -> Answer {
+) -> Answer
+    ensures { λ r. ⌜ runOf (tables (now (text .entry)) (now (tokens .entry)) (now (shapes .entry)) (now (states .entry))) (now (tree .entry)) (now (dropped .entry)) ≡ ranOf r (now (tree .exit)) (now (dropped .exit)) ⌝ }
+{
     let checked = check(text, tokens, shapes, states, dropped.len());
     if let Checked::Refused(number, place) = checked {
         return Answer::Refused(number, place);

@@ -1,0 +1,3 @@
+-- What the proof of the run uses, and what its contract fixes.
+pub mod Ways
+pub mod Only

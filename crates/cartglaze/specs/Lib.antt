@@ -1,0 +1,2 @@
+-- How the run's answer stands for the rules'.
+pub mod Answers
