@@ -30,10 +30,16 @@ second (rules.refusedAt number place) = place
 
 -- two answers that stand for the same are the same
 same-answer : (r s : Answer) → answerOf r ≡ answerOf s → r ≡ s
-same-answer (Accepted rows dropped) (Accepted n m) e = rw (ap first e, ap second e)
+same-answer (Accepted rows dropped) (Accepted n m) e =
+    let one : rows ≡ n = omega (arith, ap first e) in
+    let other : dropped ≡ m = omega (arith, ap second e) in
+    rw (one, other)
 same-answer (Accepted rows dropped) (Refused number place) e = let z : _≡_ {A = ℕ} 0 1 = cc in absurd (omega arith)
 same-answer (Refused number place) (Accepted rows dropped) e = let z : _≡_ {A = ℕ} 0 1 = cc in absurd (omega arith)
-same-answer (Refused number place) (Refused n p) e = rw (ap first e, ap second e)
+same-answer (Refused number place) (Refused n p) e =
+    let one : number ≡ n = omega (arith, ap first e) in
+    let other : place ≡ p = omega (arith, ap second e) in
+    rw (one, other)
 
 -- the answer and every element of both buffers
 pub only-run : (t : Tables) (tree dropped : List ℕ) (r s : Answer) (v v′ w w′ : List ℕ) → run t tree dropped ≡ ranOf r v w → run t tree dropped ≡ ranOf s v′ w′ → (r ≡ s) × ((v ≡ v′) × (w ≡ w′))

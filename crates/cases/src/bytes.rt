@@ -1,38 +1,73 @@
-// Numbers out of bytes, big-endian. Where there is no byte, 0 stands for it: a case that is cut short is replayed and differs.
+// Numbers out of bytes, big-endian. Where there is no byte 0 stands for it: a case that is cut short is replayed, and differs.
+ghost use Prim.Native.Nat.{_+_, _^_, _≤_, _<_};
+ghost use Rattle.io.specs.Counts.{Counts};
 
-fn byte(case: &[u8], at: usize) -> usize {
+fn of_byte(x: u8) -> usize
+    ensures { λ r. ⌜ r < 2 ^ 8 ⌝ }
+{
+    x as usize
+}
+
+// A number of a row, which may be compared with one of a case.
+pub fn wide(x: u32) -> usize
+    ensures { λ r. ⌜ r < 2 ^ 32 ⌝ }
+{
+    x as usize
+}
+
+// One byte.
+pub fn byte(case: &[u8], at: usize) -> usize
+    ensures { λ r. ⌜ r < 2 ^ 8 ⌝ }
+{
     if at < case.len() {
-        return case[at] as usize;
+        return of_byte(case[at]);
     }
     0
 }
 
 // Of two bytes.
-pub fn short(case: &[u8], at: usize) -> usize {
+pub fn short(case: &[u8], at: usize) -> usize
+    requires { ⌜ at < 2 ^ 40 ⌝ }
+    ensures { λ r. ⌜ r < 2 ^ 16 ⌝ }
+{
     byte(case, at) * 256 + byte(case, at + 1)
 }
 
 // Of four bytes.
-pub fn number(case: &[u8], at: usize) -> usize {
+pub fn number(case: &[u8], at: usize) -> usize
+    requires { ⌜ at < 2 ^ 39 ⌝ }
+    ensures { λ r. ⌜ r < 2 ^ 32 ⌝ }
+{
     short(case, at) * 65_536 + short(case, at + 2)
 }
 
-pub fn one(case: &[u8], at: usize) -> usize {
-    byte(case, at)
+// Where a table ends whose length stands at `at`.
+pub fn behind(case: &[u8], at: usize) -> usize
+    requires { ⌜ at < 2 ^ 38 ⌝ }
+    ensures { λ r. ⌜ (at + 4 ≤ r) × (r < at + 2 ^ 33) ⌝ }
+{
+    at + 4 + number(case, at)
 }
 
-// A table's numbers into the first of a buffer; how many there are.
-pub fn numbers(case: &[u8], at: usize, out: &mut [u32]) -> usize {
-    let count = number(case, at) / 4;
+fn least(a: usize, b: usize) -> usize
+    ensures { λ r. ⌜ (r ≤ a) × (r ≤ b) ⌝ }
+{
+    if a < b {
+        return a;
+    }
+    b
+}
+
+// The numbers of a table whose length stands at `at`, into the first of a buffer: how many there are, at most its room.
+pub fn numbers(case: &[u8], at: usize, out: &mut [u32]) -> usize
+    requires { ⌜ at < 2 ^ 37 ⌝ }
+    ensures { λ r. ⌜ Counts r (now (out .exit)) ⌝ }
+{
+    let count = least(number(case, at) / 4, out.len());
     let mut i = 0;
-    while i < count && i < out.len() {
+    while i < count {
         out[i] = number(case, at + 4 + i * 4) as u32;
         i = i + 1;
     }
-    i
-}
-
-// Where the next table begins.
-pub fn behind(case: &[u8], at: usize) -> usize {
-    at + 4 + number(case, at)
+    count
 }

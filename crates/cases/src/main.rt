@@ -1,4 +1,6 @@
 // Replays the recorded list, `cases.bin` of its data folder, and prints how many cases there are and how many of them differ.
+ghost use Rattle.io.specs.Counts.{Counts};
+
 mod bytes;
 mod compare;
 mod replay;
@@ -11,7 +13,9 @@ use replay::agrees;
 const MOST: u64 = 1_000_000;
 
 // The next case into the buffer: how many bytes it has, 0 at the end.
-fn read_case(fd: i32, case: &mut [u8]) -> usize {
+fn read_case(fd: i32, case: &mut [u8]) -> usize
+    ensures { λ r. ⌜ Counts r (now (case .exit)) ⌝ }
+{
     let mut length = [0u8; 4];
     if io::read_full(fd, &mut length) < 4 {
         return 0;

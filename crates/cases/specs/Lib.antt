@@ -1,0 +1,2 @@
+-- How far a comparison goes in a case.
+pub mod Compared
