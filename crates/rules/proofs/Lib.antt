@@ -2,7 +2,10 @@
 pub mod Alike
 pub mod Characters
 pub mod Checks
+pub mod Control
 pub mod Flat
+pub mod Goes
+pub mod Levels
 pub mod OnTree
 pub mod Questions
 pub mod Related

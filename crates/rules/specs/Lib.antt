@@ -20,4 +20,6 @@ pub mod Run
 pub mod Tree
 pub mod Questions
 pub mod Rowan
+pub mod Placed
+pub mod Exactly
 pub mod Cases

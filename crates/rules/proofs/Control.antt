@@ -1,0 +1,271 @@
+-- What every routine keeps: at each open node the dropped rows are those of its children so far. One law a routine, callees first, for whatever reads an item
+-- inside a node; so for every level. Assumes nothing.
+use Prim.Native.Nat.{ℕ, zero, suc, _+_, _-_, _*_, _≤_, _<_}
+use mathlib.Core.Path.{_≡_, refl, sym, ap, _∙_}
+use mathlib.Core.Bool.{Bool, true, false, cond, not, _&&_, _||_, true≢false}
+use mathlib.Core.List.{List, [], _∷_, _++_, append-assoc, append-nil}
+use mathlib.Core.Option.{Option, none, some}
+use native.Mathlib.Omega.{arith}
+use lib.Dec.{eqb, ltb}
+use lib.ListN.{length}
+use borrow.Author.Tests.{ltb-true, ltb-false, eqb-true}
+use Rattle.rules.specs.Builder.{Leaf}
+use Rattle.rules.specs.Cursor.{peek, eaten, left}
+use Rattle.rules.specs.Exactly.{kindOf, greedyName, passes, triviaFrom, passedBefore, isBody, closing, closerRow, closerOf, droppedIn, droppedAll, droppedPassing}
+use Rattle.rules.specs.Flat.{droppedRow, reasonTrivia, reasonOpener, reasonCloser}
+use Rattle.rules.specs.Items.{Item, plain, error, word, comma, group, attachment, command, environment, leftRight, skipped, itemOf, isCommandName, isIf, groupKind, closer, Piece, character, within, brace, item, Choice, ends, holds, takes, choose, greedyStops, nameOnly, classCommand, classEnvironment, ofClass}
+use Rattle.rules.specs.Kinds.{isTrivia, isTextComponent}
+use Rattle.rules.specs.Limits
+use Rattle.rules.specs.Matcher.{Matcher, startMatch, isGreedy, formGreedy, formLeft1, formInfixGreedy}
+use Rattle.rules.specs.Outcome.{Out, went, refused, bind, tooManyOpen}
+use Rattle.rules.specs.Placed.{Placed, Places, leaf, node, none, more, places, leavesIn, leavesAll, Opened, Placing, leafed, opened, openedAt, closed, noted, placing, nothing}
+use Rattle.rules.specs.Position.{Shape, Source, At, place, asked, steps, withLexer, withList, withMarks, holdingNone, start, startAt, finish, wrap}
+use Rattle.rules.specs.Reading.{orElse, items, itemList, itemGroup, piece, argument, chosen, choiceFor, arguments, matchArguments, greedyArgument, commandNode, commandOf, environmentArguments, beginClause, endClause, environmentItem, rightClause, itemLr, script, attachmentNode, attachTo, attachComponent, readItem, contentFor, content, contentAt, parse}
+use Rattle.rules.specs.Routines.{eatAs, eat, eatIf, eatWhile, turns, trivia, singleChar, oneIn, dropFrom, ignoreHoldingTrivia, leavesFrom, extractHoldingTrivia, text, delimiterOf, delimiter, clauseLr, dropNext, eatBodyOfIfs, skippedBody, startCommandAt}
+use Rattle.rules.specs.Scope
+use Rattle.rules.specs.Scope.{Scope, among, stops}
+use Rattle.rules.specs.SyntaxKind
+use Rattle.rules.specs.Tables.{kindAt, tokenCount}
+use Rattle.rules.specs.Token
+use Rattle.rules.proofs.Goes.{Goes, goes, stopped, Takes, Line, done, _then_, From, _first_, from-goes, bind-goes, weaker-goes, cond-goes, steps-go}
+use Rattle.rules.proofs.Levels.{leaves-more, all-more, all-one, lastEnd, lastEnd-more, passing-more, Ground, below, Level, level-opens, Grown, level-grows, leaf-grows, close-grows, In, in-opens, in-grows, in-leaf, Cut, in-cut, wrapped}
+
+-- a rule over the builder that notes places
+abbrev Rule : Type 0
+Rule = At placing → Out (At placing)
+
+-- kinds of nodes that pass trivia or are bodies
+abbrev special : List ℕ
+special = SyntaxKind.ItemBegin ∷ SyntaxKind.ItemCmd ∷ SyntaxKind.ItemBlockComment ∷ SyntaxKind.ItemTypstCode ∷ []
+
+neither : (a b c d x y z : Bool) → a || (b || (c || (d || false))) ≡ false → ((c && x) || (d && y) ≡ false) × (a || (b && z) ≡ false)
+neither false false false false x y z e = (refl, refl)
+neither true b c d x y z e = absurd (true≢false e)
+neither false true c d x y z e = absurd (true≢false e)
+neither false false true d x y z e = absurd (true≢false e)
+neither false false false true x y z e = absurd (true≢false e)
+
+module _ (source : Source) where
+  abbrev Here : Ground → At placing → Type 0
+  Here g p = In source g (p .built)
+
+  -- a rule keeps it, at whatever node is open
+  abbrev Keep : Rule → Type 0
+  Keep f = (g : Ground) → Takes (Here g) (Here g) f
+
+  -- inside a node that was begun at `g`'s level, with the rows of its children so far; and more of it
+  record Within (rows : ℕ → Places → List ℕ) (also : List Placed → At placing → Type 0) (g : Ground) (kind from : ℕ) (p : At placing) : Type 0 where
+    around : Placing
+    outside : In source g around
+    level : Level (rows (around .leaves)) (below kind from around) (p .built)
+    holding : also (level .inside) p
+
+  abbrev Any : List Placed → At placing → Type 0
+  Any us p = Unit {0}
+
+  -- inside a node that passes nothing itself
+  abbrev Under : Ground → ℕ → ℕ → At placing → Type 0
+  Under g kind from p = Within (droppedAll source) Any g kind from p
+
+  under : {f : Rule} → Keep f → (g : Ground) (kind from : ℕ) → Takes (Under g kind from) (Under g kind from) f
+  under keep g kind from p h = weaker-goes (λ q level. record { around = h .around; outside = h .outside; level = level; holding = tt }) (keep (below kind from (h .around)) p (h .level))
+
+  pub record Plain (kind from : ℕ) : Type 0 where
+    pub body : isBody source kind from ≡ false
+    pub passing : passes source kind from ≡ false
+
+  other : (kind from : ℕ) → among kind special ≡ false → Plain kind from
+  unfolding isBody passes
+  other kind from e =
+      let both =
+      neither (eqb kind SyntaxKind.ItemBegin) (eqb kind SyntaxKind.ItemCmd) (eqb kind SyntaxKind.ItemBlockComment) (eqb kind SyntaxKind.ItemTypstCode) (eqb (kindOf source from) Token.IfFalse) (eqb (kindOf source from) Token.IfTypst)
+      (not (greedyName source from)) e in
+      record { body = both .0; passing = both .1 }
+
+  start-under : (kind : ℕ) (g : Ground) (p : At placing) → Here g p → Goes (Under g kind (place placing p)) (start placing kind p)
+  start-under kind g p h = goes (record { around = p .built; outside = h; level = in-opens source kind (place placing p) (p .built); holding = tt })
+
+  finish-in : {g : Ground} {kind from : ℕ} → Plain kind from → Takes (Under g kind from) (Here g) (finish placing kind tt)
+  unfolding droppedIn
+  finish-in ordinary p h = goes (in-grows source (h .outside) (close-grows (place placing p) (h .level)) (sym (rw (ordinary .body, ordinary .passing))))
+
+  -- a node around routines that keep it
+  node-in : {f : Rule} (kind : ℕ) → among kind special ≡ false → Keep f → (g : Ground) (p : At placing) → Here g p → Goes (Here g) (steps (start placing kind ∷ f ∷ finish placing kind tt ∷ []) p)
+  node-in kind ordinary keep g p h = from-goes (start-under kind g p h first under keep g kind (place placing p) then finish-in (other kind (place placing p) ordinary) then done)
+
+  -- ---- routines without an item inside
+
+  -- whether a next token is there whose kind passes a test
+  abbrev sees : (ℕ → Bool) → At placing → Bool
+  sees test p = asked test (peek (source .tokens) (p .lexer))
+
+  eatAs-in : (kind : ℕ) → Keep (eatAs placing source kind)
+  unfolding eatAs
+  eatAs-in kind g p h = goes (in-leaf source _ h)
+
+  eat-in : Keep (eat placing source)
+  unfolding eat
+  eat-in g p h = eatAs-in _ g p h
+
+  eatIf-in : (kind : ℕ) → Keep (eatIf placing source kind)
+  unfolding eatIf
+  eatIf-in kind g p h = cond-goes (sees (eqb kind) p) (λ _. eat-in g p h) (λ _. goes h)
+
+  eatWhile-in : (test : ℕ → Bool) (n : ℕ) → Keep (eatWhile placing source test n)
+  unfolding eatWhile
+  eatWhile-in test zero g p h = goes h
+  eatWhile-in test (suc n) g p h = cond-goes (sees test p) (λ _. bind-goes (eat-in g p h) (eatWhile-in test n g)) (λ _. goes h)
+
+  trivia-in : Keep (trivia placing source)
+  unfolding trivia
+  trivia-in g p h = eatWhile-in isTrivia _ g p h
+
+  singleChar-in : Keep (singleChar placing source)
+  unfolding singleChar
+  singleChar-in g p h = goes (in-leaf source _ h)
+
+  oneIn-in : (kind : ℕ) → among kind special ≡ false → Keep (oneIn placing source kind)
+  unfolding oneIn
+  oneIn-in kind ordinary g p h = node-in kind ordinary eat-in g p h
+
+  leavesFrom-in : (n i : ℕ) → Keep (leavesFrom placing source n i)
+  unfolding leavesFrom
+  leavesFrom-in zero i g p h = goes h
+  leavesFrom-in (suc n) i g p h = leavesFrom-in n (i + 1) g _ (in-leaf source _ h)
+
+  extract-in : Keep (extractHoldingTrivia placing source)
+  unfolding extractHoldingTrivia
+  extract-in g p h = bind-goes (leavesFrom-in _ _ g p h) (λ q k. goes k)
+
+  -- ---- items without an item inside
+
+  eatAll-in : (test : ℕ → Bool) → Keep (λ p. eatWhile placing source test (turns placing source p) p)
+  eatAll-in test g p h = eatWhile-in test _ g p h
+
+  text-in : Keep (text placing source)
+  unfolding text
+  text-in g p h =
+      let from = place placing p in
+      from-goes (start-under SyntaxKind.ItemText g p h first under eat-in g SyntaxKind.ItemText from then under (eatAll-in isTextComponent) g SyntaxKind.ItemText from then finish-in (other SyntaxKind.ItemText from refl) then done)
+
+  delimiterOf-in : (o : Option ℕ) → Keep (delimiterOf placing source o)
+  delimiterOf-in none g p h = goes h
+  delimiterOf-in (some kind) g p h =
+      cond-goes (eqb kind Token.Generic) (λ _. eatAs-in SyntaxKind.TokenCommandSym g p h)
+      (λ _. cond-goes (isCommandName kind) (λ _. goes h)
+      (λ _. cond-goes (eqb kind Token.Dollar) (λ _. goes h)
+      (λ _. cond-goes (eqb kind Token.Word) (λ _. singleChar-in g p h) (λ _. eat-in g p h))))
+
+  delimiter-in : Keep (delimiter placing source)
+  unfolding delimiter
+  delimiter-in g p h = delimiterOf-in (peek (source .tokens) (p .lexer)) g p h
+
+  clauseLr-in : Keep (clauseLr placing source)
+  unfolding clauseLr
+  clauseLr-in g p h =
+      let from = place placing p in
+      from-goes (start-under SyntaxKind.ClauseLR g p h
+      first under eat-in g SyntaxKind.ClauseLR from
+      then under trivia-in g SyntaxKind.ClauseLR from
+      then under delimiter-in g SyntaxKind.ClauseLR from
+      then finish-in (other SyntaxKind.ClauseLR from refl)
+      then done)
+
+  -- ---- skipped bodies
+
+  abbrev bodyRows : ℕ → Option ℕ → ℕ → Places → List ℕ
+  bodyRows from closer n inside = droppedRow from reasonOpener n ++ closerRow source closer (n + leavesAll inside)
+
+  -- inside a body whose opener is dropped, and whose closer too if there is one
+  record Body (closer : Option ℕ) (g : Ground) (kind from : ℕ) (p : At placing) : Type 0 where
+    has : Within (bodyRows from closer) Any g kind from p
+
+  -- which \fi closes it, from a token on
+  abbrev closingFrom : ℕ → ℕ → Option ℕ
+  closingFrom nested token = closing source (tokenCount (source .tokens) - token) nested token
+
+  module _ (g : Ground) (kind from : ℕ) where
+    level-eaten : {n : ℕ} {ground : Ground} {b : Placing} (l : Leaf) → Level (bodyRows from none n) ground b → Level (bodyRows from none n) ground (leafed l b)
+    level-eaten {b} l h = level-grows h (leaf-grows l b) refl
+
+    level-closed : {n : ℕ} {ground : Ground} {b : Placing} (token : ℕ) → n ≡ ground .leaves → Level (bodyRows from none n) ground b → Level (bodyRows from (some token) n) ground (noted token reasonCloser b)
+    unfolding noted
+    level-closed {n} {ground} token e l =
+        record {
+          inside = l .inside;
+          parents = l .parents;
+          children = l .children;
+          leaves = l .leaves;
+          dropped = rw (l .dropped, l .leaves, ← e) (append-assoc (ground .dropped) (droppedRow from reasonOpener n) (droppedRow token reasonCloser (n + leavesAll (places (l .inside)))));
+        }
+
+    close-body : (p : At placing) → Body none g kind from p → Goes (Body (some (place placing p)) g kind from) (dropNext placing source reasonCloser p)
+    unfolding dropNext
+    close-body p h = let w = h .has in goes (record { has = record { around = w .around; outside = w .outside; level = level-closed (place placing p) refl (w .level); holding = tt } })
+
+    -- a choice of the routine beside the same choice of the definition
+    cond-body : (t : Bool) {closer closer′ : Option ℕ} {x y : Out (At placing)}
+        → (t ≡ true → Goes (Body closer g kind from) x)
+        → (t ≡ false → Goes (Body closer′ g kind from) y)
+        → Goes (Body (cond t closer closer′) g kind from) (cond t x y)
+    cond-body true met missed = met refl
+    cond-body false met missed = missed refl
+
+    -- what is shown of so many turns
+    abbrev Turns : ℕ → Type 0
+    Turns n = (nested : ℕ) (p : At placing) → tokenCount (source .tokens) - place placing p ≤ n → Body none g kind from p → Goes (Body (closingFrom nested (place placing p)) g kind from) (eatBodyOfIfs placing source n nested p)
+
+    -- a token is eaten, and then so many turns
+    eaten-body : (n nested : ℕ) → Turns n → (p : At placing) → tokenCount (source .tokens) - (place placing p + 1) ≤ n → Body none g kind from p
+        → Goes (Body (closingFrom nested (place placing p + 1)) g kind from) (bind (eat placing source p) (λ q. eatBodyOfIfs placing source n nested q))
+    unfolding eat eatAs
+    eaten-body n nested rest p few h = let w = h .has in rest nested _ few (record { has = record { around = w .around; outside = w .outside; level = level-eaten _ (w .level); holding = tt } })
+
+    -- a turn, at a token or at the end
+    turn-body : (n nested : ℕ) → Turns n → (p : At placing) (t : Bool) → ltb (place placing p) (tokenCount (source .tokens)) ≡ t → tokenCount (source .tokens) - place placing p ≤ suc n → Body none g kind from p
+        → let o = cond t (some (kindOf source (place placing p))) none in
+        Goes (Body (closingFrom nested (place placing p)) g kind from)
+        (cond (asked (eqb Token.EndIf) o)
+        (cond (eqb nested 0) (dropNext placing source reasonCloser p) (bind (eat placing source p) (λ q. eatBodyOfIfs placing source n (nested - 1) q)))
+        (cond (asked isIf o) (bind (eat placing source p) (λ q. eatBodyOfIfs placing source n (nested + 1) q))
+        (cond (asked (λ kind. true) o) (bind (eat placing source p) (λ q. eatBodyOfIfs placing source n nested q)) (went p))))
+    unfolding closing
+    turn-body n nested rest p true e few h =
+        let more = ltb-true (place placing p) (tokenCount (source .tokens)) e in
+        let one : tokenCount (source .tokens) - place placing p ≡ suc (tokenCount (source .tokens) - (place placing p + 1)) = omega arith in
+        let fewer : tokenCount (source .tokens) - (place placing p + 1) ≤ n = omega arith in
+        rw one
+        (cond-body (eqb Token.EndIf (kindOf source (place placing p)))
+        (λ _. cond-body (eqb nested 0) (λ _. close-body p h) (λ _. eaten-body n (nested - 1) rest p fewer h))
+        (λ _. cond-body (isIf (kindOf source (place placing p))) (λ _. eaten-body n (nested + 1) rest p fewer h) (λ _. eaten-body n nested rest p fewer h)))
+    turn-body n nested rest p false e few h =
+        let past = ltb-false (place placing p) (tokenCount (source .tokens)) e in
+        let nothing-left : tokenCount (source .tokens) - place placing p ≡ 0 = omega arith in
+        rw nothing-left (goes h)
+
+    eatBodyOfIfs-body : (n : ℕ) → Turns n
+    unfolding eatBodyOfIfs peek closing
+    eatBodyOfIfs-body zero nested p few h = let nothing-left : tokenCount (source .tokens) - place placing p ≡ 0 = omega arith in rw nothing-left (goes h)
+    eatBodyOfIfs-body (suc n) nested p few h = turn-body n nested (eatBodyOfIfs-body n) p (ltb (place placing p) (tokenCount (source .tokens))) refl few h
+
+  -- the node is begun and its opener dropped
+  level-body : (kind from : ℕ) (b : Placing) → Level (bodyRows from none (b .leaves)) (below kind from b) (noted from reasonOpener (opened from kind (length (b .children)) b))
+  unfolding noted opened leavesAll
+  level-body kind from b = record { inside = []; parents = refl; children = sym (append-nil (b .children)); leaves = omega arith; dropped = refl }
+
+  finish-body : {g : Ground} {kind from : ℕ} → isBody source kind from ≡ true → Takes (Body (closerOf source from) g kind from) (Here g) (finish placing kind tt)
+  unfolding droppedIn
+  finish-body {from} body p h =
+      let w = h .has in
+      goes (in-grows source (w .outside) (close-grows (place placing p) (w .level)) (sym (rw body)))
+
+  -- there are turns enough for the tokens that are left
+  enough : (count token : ℕ) → count - token ≤ (count - token) * (Limits.text + 1) - 0
+  enough count token = omega arith
+
+  skippedBody-in : (kind : ℕ) (g : Ground) (p : At placing) → isBody source kind (place placing p) ≡ true → Here g p → Goes (Here g) (skippedBody placing source kind p)
+  unfolding skippedBody steps dropNext left
+  skippedBody-in kind g p body h =
+      let from = place placing p in
+      bind-goes (eatBodyOfIfs-body g kind from _ 0 _ (enough (tokenCount (source .tokens)) (from + 1)) (record { has = record { around = p .built; outside = h; level = level-body kind from (p .built); holding = tt } }))
+      (steps-go (finish-body body then done))
