@@ -17,11 +17,12 @@ use Rattle.rules.specs.Items.{Item, plain, error, word, comma, group, at
 use Rattle.rules.specs.Kinds.{isTrivia, isTextComponent}
 use Rattle.rules.specs.Limits
 use Rattle.rules.specs.Matcher.{Matcher, startMatch, isGreedy, formGreedy, formLeft1, formInfixGreedy}
-use Rattle.rules.specs.Outcome.{Out, went, refused, bind, tooManyOpen}
-use Rattle.rules.specs.Placed.{Placed, Places, leaf, node, none, more, places, leavesIn, leavesAll, Opened, Placing, leafed, opened, openedAt, closed, noted, placing, nothing}
+use Rattle.rules.specs.Outcome.{Out, went, refused, bind, markBeforeNode, tooManyOpen}
+use Rattle.rules.specs.Placed.{Placed, Places, leaf, node, none, more, places, leavesIn, leavesAll, Opened, Placing, firstOf, leafed, opened, openedAt, closed, noted, placing, nothing}
 use Rattle.rules.specs.Position.{Shape, Source, At, place, asked, steps, withLexer, withList, withMarks, holdingNone, start, startAt, finish, wrap}
 use Rattle.rules.specs.Reading.{orElse, items, itemList, itemGroup, piece, argument, chosen, choiceFor, arguments, matchArguments, greedyArgument, commandNode, commandOf, environmentArguments, beginClause, endClause, environmentItem, rightClause, itemLr, script, attachmentNode, attachTo, attachComponent, readItem, contentFor, content, contentAt, parse}
 use Rattle.rules.specs.Routines.{eatAs, eat, eatIf, eatWhile, turns, trivia, singleChar, oneIn, dropFrom, ignoreHoldingTrivia, leavesFrom, extractHoldingTrivia, text, delimiterOf, delimiter, clauseLr, dropNext, eatBodyOfIfs, skippedBody, startCommandAt}
+use Rattle.rules.specs.Rowan.{markPastLast}
 use Rattle.rules.specs.Scope
 use Rattle.rules.specs.Scope.{Scope, among, stops}
 use Rattle.rules.specs.SyntaxKind
@@ -269,3 +270,157 @@ module _ (source : Source) where
       let from = place placing p in
       bind-goes (eatBodyOfIfs-body g kind from _ 0 _ (enough (tokenCount (source .tokens)) (from + 1)) (record { has = record { around = p .built; outside = h; level = level-body kind from (p .built); holding = tt } }))
       (steps-go (finish-body body then done))
+
+  -- ---- wraps
+
+  -- inside a node that was begun at the place of this position
+  abbrev Begun : (ℕ → Places → List ℕ) → Ground → ℕ → ℕ → At placing → Type 0
+  Begun rows g kind from p = Within rows (λ us q. place placing q ≡ from) g kind from p
+
+  -- what is asked of rows, so that they are nothing of no child, and of an argument that a wrap closes the rows of what stood there
+  record Wraps (rows : ℕ → Places → List ℕ) (from : ℕ) : Type 0 where
+    of-none : (n : ℕ) → rows n none ≡ []
+    of-argument : (n : ℕ) (us : List Placed) → rows n (places (node SyntaxKind.ClauseArgument from from (places us) ∷ [])) ≡ droppedAll source n (places us)
+
+  wraps-all : (from : ℕ) → Wraps (droppedAll source) from
+  unfolding droppedIn isBody passes
+  wraps-all from = record { of-none = λ n. refl; of-argument = λ n us. append-nil (droppedAll source n (places us)) }
+
+  wraps-passing : (from : ℕ) → Wraps (droppedPassing source from) from
+  unfolding droppedIn isBody passes triviaFrom
+  wraps-passing from =
+      let nothing-between : from - from ≡ 0 = omega arith in
+      record { of-none = λ n. refl; of-argument = λ n us. rw nothing-between (append-nil (droppedAll source n (places us))) }
+
+  start-begun : (rows : ℕ → Places → List ℕ) (kind : ℕ) (g : Ground) (p : At placing) → Wraps rows (place placing p) → Here g p → Goes (Begun rows g kind (place placing p)) (start placing kind p)
+  start-begun rows kind g p wraps h = goes (record { around = p .built; outside = h; level = level-opens (rows (p .built .leaves)) (wraps .of-none (p .built .leaves)) kind (place placing p) (p .built); holding = refl })
+
+  -- a node begins at a mark, if that lies neither past the last child nor before the innermost node's first
+  record AtMark (place kind mark : ℕ) (s after : Placing) : Type 0 where
+    is : after ≡ opened place kind mark s
+    high : mark ≤ length (s .children)
+    low : firstOf (s .parents) ≤ mark
+
+  at-mark : (from kind mark : ℕ) (s : Placing) → Goes (AtMark from kind mark s) (openedAt from kind mark s)
+  unfolding openedAt
+  at-mark from kind mark s =
+      cond-goes (ltb (length (s .children)) mark) (λ _. stopped markPastLast from)
+      (λ e. cond-goes (ltb mark (firstOf (s .parents))) (λ _. stopped markBeforeNode from)
+      (λ d. goes (record { is = refl; high = ltb-false (length (s .children)) mark e; low = ltb-false mark (firstOf (s .parents)) d })))
+
+  cut-at : {g : Ground} {b after : Placing} {from kind mark : ℕ} → In source g b → AtMark from kind mark b after → Cut source g b mark
+  cut-at {g} {b} {mark} h at =
+      let low : length (g .base) ≤ mark = rw (h .parents) at (at .low) in
+      in-cut source mark h low (at .high)
+
+  -- a wrap: what stood before the mark is around its node
+  wrap-begun : (rows : ℕ → Places → List ℕ) (kind mark : ℕ) (g : Ground) (p : At placing) → Wraps rows (place placing p) → Here g p → Goes (Begun rows g kind (place placing p)) (wrap placing kind mark p)
+  unfolding wrap
+  wrap-begun rows kind mark g p wraps h =
+      let from = place placing p in
+      bind-goes {Q = λ q. (AtMark from kind mark (p .built) (q .built)) × (place placing q ≡ from)} (bind-goes (at-mark from kind mark (p .built)) (λ s at. goes (at, refl)))
+      (λ outer o. bind-goes {Q = λ q. (AtMark (place placing outer) SyntaxKind.ClauseArgument mark (outer .built) (q .built)) × (place placing q ≡ place placing outer)}
+      (bind-goes (at-mark (place placing outer) SyntaxKind.ClauseArgument mark (outer .built)) (λ s at. goes (at, refl)))
+      (λ inner i.
+      let cut = cut-at h (o .0) in
+      let n = cut .before .leaves in
+      let built : inner .built ≡ opened from SyntaxKind.ClauseArgument mark (opened from kind mark (p .built)) = rw (i .0 .is, o .0 .is, o .1) in
+      goes (record {
+        around = cut .before;
+        outside = cut .level;
+        level = rw (built, i .1, o .1) (wrapped source rows from kind mark cut (wraps .of-none n) (wraps .of-argument n (cut .since)));
+        holding = i .1 ∙ o .1;
+      })))
+
+  startCommandAt-begun : (rows : ℕ → Places → List ℕ) (o : Option ℕ) (g : Ground) (p : At placing) → Wraps rows (place placing p) → Here g p
+      → Goes (Begun rows g SyntaxKind.ItemCmd (place placing p)) (startCommandAt placing source o p)
+  unfolding startCommandAt
+  startCommandAt-begun rows none g p wraps h = start-begun rows SyntaxKind.ItemCmd g p wraps h
+  startCommandAt-begun rows (some mark) g p wraps h = wrap-begun rows SyntaxKind.ItemCmd mark g p wraps h
+
+  -- a node that passes nothing, wherever it was begun
+  as-under : {g : Ground} {kind from : ℕ} (p : At placing) → Begun (droppedAll source) g kind from p → Under g kind from p
+  as-under p h = record { around = h .around; outside = h .outside; level = h .level; holding = tt }
+
+  -- ---- a command or a \begin that passes trivia before its arguments
+
+  -- it has its name, or an argument, and nothing behind it was read
+  abbrev Named : Ground → ℕ → ℕ → At placing → Type 0
+  Named g kind from p = Within (droppedPassing source from) (λ us q. lastEnd source from us ≡ place placing q) g kind from p
+
+  -- trivia behind that is held
+  record Held (from : ℕ) (us : List Placed) (p : At placing) : Type 0 where
+    behind : lastEnd source from us ≡ p .held
+    blank : (i : ℕ) → p .held ≤ i → i < place placing p → isTrivia (kindOf source i) ≡ true
+
+  abbrev Holding : Ground → ℕ → ℕ → At placing → Type 0
+  Holding g kind from p = Within (droppedPassing source from) (Held from) g kind from p
+
+  -- the name is eaten
+  name-in : {g : Ground} {kind from : ℕ} → Takes (Begun (droppedPassing source from) g kind from) (Named g kind from) (eat placing source)
+  unfolding eat eatAs level-grows droppedIn
+  name-in {from} p h =
+      let us = h .level .inside in
+      goes (record {
+        around = h .around;
+        outside = h .outside;
+        level = level-grows (h .level) (leaf-grows _ (p .built)) (passing-more source us (leaf _) from (h .around .leaves));
+        holding = lastEnd-more source us (leaf _) from;
+      })
+
+  finish-passing : {also : List Placed → At placing → Type 0} {g : Ground} {kind from : ℕ} → isBody source kind from ≡ false → passes source kind from ≡ true
+      → Takes (Within (droppedPassing source from) also g kind from) (Here g) (finish placing kind tt)
+  unfolding droppedIn
+  finish-passing body passing p h = goes (in-grows source (h .outside) (close-grows (place placing p) (h .level)) (sym (rw (body, passing))))
+
+  -- a node with a name alone
+  oneCmd-in : (g : Ground) (p : At placing) → passes source SyntaxKind.ItemCmd (place placing p) ≡ true → Here g p → Goes (Here g) (oneIn placing source SyntaxKind.ItemCmd p)
+  unfolding oneIn isBody
+  oneCmd-in g p passing h =
+      let from = place placing p in
+      from-goes (start-begun (droppedPassing source from) SyntaxKind.ItemCmd g p (wraps-passing from) h first name-in then finish-passing refl passing then done)
+
+  -- ---- held trivia that is dropped
+
+  record Lost (rows : List ℕ) (b after : Placing) : Type 0 where
+    parents : after .parents ≡ b .parents
+    children : after .children ≡ b .children
+    leaves : after .leaves ≡ b .leaves
+    dropped : after .dropped ≡ b .dropped ++ rows
+
+  abbrev Blank : ℕ → ℕ → Type 0
+  Blank from to = (i : ℕ) → from ≤ i → i < to → isTrivia (kindOf source i) ≡ true
+
+  lost : (n i : ℕ) (b : Placing) → Blank i (i + n) → Lost (triviaFrom source n i (b .leaves)) b (dropFrom placing source n i b)
+  unfolding dropFrom triviaFrom noted
+  lost zero i b blank = record { parents = refl; children = refl; leaves = refl; dropped = sym (append-nil (b .dropped)) }
+  lost (suc n) i b blank =
+      let rest = lost n (i + 1) (noted i reasonTrivia b) (λ j low high. blank j (omega arith) (omega arith)) in
+      record {
+        parents = rest .parents;
+        children = rest .children;
+        leaves = rest .leaves;
+        dropped = rest .dropped ∙ append-assoc (b .dropped) (droppedRow i reasonTrivia (b .leaves)) (triviaFrom source n (i + 1) (b .leaves)) ∙ rw (blank i (omega arith) (omega arith)) refl;
+      }
+
+  -- and then a child more
+  lost-grown : {rows new : List ℕ} {t : Placed} {b between after : Placing} → Lost rows b between → Grown t new between after → Grown t (rows ++ new) b after
+  lost-grown {rows} {new} {t} {b} l grown =
+      record {
+        parents = grown .parents ∙ l .parents;
+        children = grown .children ∙ ap (λ (cs : List Placed). cs ++ (t ∷ [])) (l .children);
+        leaves = grown .leaves ∙ ap (λ (n : ℕ). n + leavesIn t) (l .leaves);
+        dropped = grown .dropped ∙ ap (λ (d : List ℕ). d ++ new) (l .dropped) ∙ append-assoc (b .dropped) rows new;
+      }
+
+  -- an argument, behind trivia that is dropped, of a node that passes it: the node then ends where the argument does
+  argument-grows : {g : Ground} {b between after : Placing} (from held place to : ℕ) (h : Level (droppedPassing source from (g .leaves)) g b) → lastEnd source from (h .inside) ≡ held
+      → Lost (triviaFrom source (place - held) held (b .leaves)) b between
+      → Level (droppedAll source (between .leaves)) (below SyntaxKind.ClauseArgument place between) after
+      → (l : Level (droppedPassing source from (g .leaves)) g (closed to after)) × (lastEnd source from (l .inside) ≡ to)
+  unfolding droppedIn isBody passes level-grows
+  argument-grows {g} {b} {between} from held place to h behind gone inside =
+      let us = h .inside in
+      let is = node SyntaxKind.ClauseArgument place to (places (inside .inside)) in
+      let grown = lost-grown gone (close-grows to inside) in
+      (level-grows h grown (passing-more source us is from (g .leaves) ∙ rw (behind, ← h .leaves, gone .leaves)), lastEnd-more source us is from)

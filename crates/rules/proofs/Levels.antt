@@ -88,7 +88,7 @@ pub record Level (rows : Places → List ℕ) (g : Ground) (b : Placing) : Type 
   pub dropped : b .dropped ≡ g .dropped ++ rows (places inside)
 
 -- it has no child yet
-pub level-opens : (rows : Places → List ℕ) → rows none ≡ [] → (kind from : ℕ) (b : Placing) → Level rows (below kind from b) (opened from kind (length (b .children)) b)
+unfoldable pub level-opens : (rows : Places → List ℕ) → rows none ≡ [] → (kind from : ℕ) (b : Placing) → Level rows (below kind from b) (opened from kind (length (b .children)) b)
 unfolding opened leavesAll
 level-opens rows e kind from b = record { inside = []; parents = refl; children = sym (append-nil (b .children)); leaves = omega arith; dropped = sym (rw e (append-nil (b .dropped))) }
 
@@ -99,7 +99,7 @@ pub record Grown (t : Placed) (rows : List ℕ) (b after : Placing) : Type 0 whe
   pub leaves : after .leaves ≡ b .leaves + leavesIn t
   pub dropped : after .dropped ≡ b .dropped ++ rows
 
-pub level-grows : {rows : Places → List ℕ} {g : Ground} {b after : Placing} {t : Placed} {new : List ℕ} (h : Level rows g b) → Grown t new b after
+unfoldable pub level-grows : {rows : Places → List ℕ} {g : Ground} {b after : Placing} {t : Placed} {new : List ℕ} (h : Level rows g b) → Grown t new b after
     → rows (places (h .inside ++ (t ∷ []))) ≡ rows (places (h .inside)) ++ new
     → Level rows g after
 level-grows {rows} {g} {t} {new} h grown e =
