@@ -21,13 +21,14 @@ use Rattle.rules.specs.Outcome.{Out, went, refused, bind, markBeforeNode
 use Rattle.rules.specs.Placed.{Placed, Places, leaf, node, none, more, places, leavesIn, leavesAll, Opened, Placing, firstOf, leafed, opened, openedAt, closed, noted, placing, nothing}
 use Rattle.rules.specs.Position.{Shape, Source, At, place, asked, steps, withLexer, withList, withMarks, holdingNone, start, startAt, finish, wrap}
 use Rattle.rules.specs.Reading.{orElse, items, itemList, itemGroup, piece, argument, chosen, choiceFor, arguments, matchArguments, greedyArgument, commandNode, commandOf, environmentArguments, beginClause, endClause, environmentItem, rightClause, itemLr, script, attachmentNode, attachTo, attachComponent, readItem, contentFor, content, contentAt, parse}
-use Rattle.rules.specs.Routines.{eatAs, eat, eatIf, eatWhile, turns, trivia, singleChar, oneIn, dropFrom, ignoreHoldingTrivia, leavesFrom, extractHoldingTrivia, text, delimiterOf, delimiter, clauseLr, dropNext, eatBodyOfIfs, skippedBody, startCommandAt}
+use Rattle.rules.specs.Routines.{eatAs, eat, eatIf, eatWhile, turns, trivia, singleChar, oneIn, holdTrivia, dropFrom, ignoreHoldingTrivia, leavesFrom, extractHoldingTrivia, text, delimiterOf, delimiter, clauseLr, dropNext, eatBodyOfIfs, skippedBody, startCommandAt}
 use Rattle.rules.specs.Rowan.{markPastLast}
 use Rattle.rules.specs.Scope
 use Rattle.rules.specs.Scope.{Scope, among, stops}
 use Rattle.rules.specs.SyntaxKind
 use Rattle.rules.specs.Tables.{kindAt, tokenCount}
 use Rattle.rules.specs.Token
+use Rattle.rules.proofs.Choices.{held-is-trivia, greedyForms, greedy-is, name-not-greedy, left1-not-greedy, infix-greedy, Fits, item-fits}
 use Rattle.rules.proofs.Goes.{Goes, goes, stopped, Takes, Line, done, _then_, From, _first_, from-goes, bind-goes, weaker-goes, cond-goes, steps-go}
 use Rattle.rules.proofs.Levels.{leaves-more, all-more, all-one, lastEnd, lastEnd-more, passing-more, Ground, below, Level, level-opens, Grown, level-grows, leaf-grows, close-grows, In, in-opens, in-grows, in-leaf, Cut, in-cut, wrapped}
 
@@ -391,6 +392,16 @@ module _ (source : Source) where
   abbrev Blank : ℕ → ℕ → Type 0
   Blank from to = (i : ℕ) → from ≤ i → i < to → isTrivia (kindOf source i) ≡ true
 
+  blank-at : (from to i : ℕ) (t : Bool) → ltb i to ≡ t → isTrivia (kindOf source to) ≡ true → Blank from to → from ≤ i → i < to + 1 → isTrivia (kindOf source i) ≡ true
+  blank-at from to i true e is blank low high = blank i low (ltb-true i to e)
+  blank-at from to i false e is blank low high =
+      let past = ltb-false i to e in
+      let same : i ≡ to = omega arith in
+      rw same is
+
+  blank-more : (from to : ℕ) → isTrivia (kindOf source to) ≡ true → Blank from to → Blank from (to + 1)
+  blank-more from to is blank i low high = blank-at from to i (ltb i to) refl is blank low high
+
   lost : (n i : ℕ) (b : Placing) → Blank i (i + n) → Lost (triviaFrom source n i (b .leaves)) b (dropFrom placing source n i b)
   unfolding dropFrom triviaFrom noted
   lost zero i b blank = record { parents = refl; children = refl; leaves = refl; dropped = sym (append-nil (b .dropped)) }
@@ -424,3 +435,122 @@ module _ (source : Source) where
       let is = node SyntaxKind.ClauseArgument place to (places (inside .inside)) in
       let grown = lost-grown gone (close-grows to inside) in
       (level-grows h grown (passing-more source us is from (g .leaves) ∙ rw (behind, ← h .leaves, gone .leaves)), lastEnd-more source us is from)
+
+  -- which command passes: by its shape
+  cmd-passes : (from : ℕ) (s : Shape) → greedyName source from ≡ among (s .form) greedyForms → among (s .form) greedyForms ≡ false → passes source SyntaxKind.ItemCmd from ≡ true
+  unfolding passes
+  cmd-passes from s is e = rw (is, e) refl
+
+  cmd-plain : (from : ℕ) (s : Shape) → greedyName source from ≡ among (s .form) greedyForms → among (s .form) greedyForms ≡ true → Plain SyntaxKind.ItemCmd from
+  unfolding passes isBody
+  cmd-plain from s is e = record { body = refl; passing = rw (is, e) refl }
+
+  -- ---- lists, and items inside
+
+  module _ (inner : Bool → Rule) (keeps : (single : Bool) → Keep (inner single)) where
+    items-in : (stop : ℕ → Bool) (n : ℕ) → Keep (items placing source inner stop n)
+    unfolding items
+    items-in stop zero g p h = goes h
+    items-in stop (suc n) g p h =
+        cond-goes (sees (λ kind. cond (stop kind) false true) p) (λ _. bind-goes (keeps false g p h) (λ q k. items-in stop n g _ k)) (λ _. goes h)
+
+    itemList-in : (scope : Scope) → Keep (itemList placing source inner scope)
+    unfolding itemList steps
+    itemList-in scope g p h = bind-goes (items-in (stops scope) _ g _ h) (λ q k. goes k)
+
+    group-plain : (scope : Scope) → among (groupKind scope) special ≡ false
+    group-plain Scope.Root = refl
+    group-plain Scope.DollarFormula = refl
+    group-plain Scope.CmdFormula = refl
+    group-plain Scope.Environment = refl
+    group-plain Scope.LR = refl
+    group-plain Scope.CurlyItem = refl
+    group-plain Scope.BracketItem = refl
+    group-plain Scope.ParenItem = refl
+
+    itemGroup-in : (scope : Scope) → Keep (itemGroup placing source inner scope)
+    unfolding itemGroup
+    itemGroup-in scope g p h =
+        let from = place placing p in
+        let kind = groupKind scope in
+        from-goes (start-under kind g p h
+        first under eat-in g kind from
+        then under (itemList-in scope) g kind from
+        then under (eatIf-in (closer scope)) g kind from
+        then finish-in (other kind from (group-plain scope))
+        then done)
+
+    -- ---- arguments
+
+    piece-in : (what : Piece) → Keep (piece placing source inner what)
+    unfolding piece
+    piece-in character g p h = singleChar-in g p h
+    piece-in (within scope) g p h = itemGroup-in scope g p h
+    piece-in brace g p h = eat-in g p h
+    piece-in item g p h = keeps false g p h
+
+    module _ {g : Ground} {kind from : ℕ} where
+      argument-in : (what : Piece) → Takes (Holding g kind from) (Holding g kind from) (argument placing source inner what)
+      unfolding argument ignoreHoldingTrivia steps
+      argument-in what p h =
+          let at = place placing p in
+          let held = p .held in
+          let w = h .holding in
+          let blank : Blank held (held + (at - held)) = λ i low high. w .blank i low (omega arith) in
+          let gone = lost (at - held) held (p .built) blank in
+          bind-goes (piece-in what (below SyntaxKind.ClauseArgument at (dropFrom placing source (at - held) held (p .built))) _ (in-opens source SyntaxKind.ClauseArgument at (dropFrom placing source (at - held) held (p .built))))
+          (λ q inside.
+          let grown = argument-grows from held at (place placing q) (h .level) (w .behind) gone inside in
+          goes (record {
+            around = h .around;
+            outside = h .outside;
+            level = grown .0;
+            holding = record { behind = grown .1; blank = λ i low high. absurd (omega arith) };
+          }))
+
+      -- trivia is held
+      holds-in : (p : At placing) → isTrivia (kindOf source (place placing p)) ≡ true → Holding g kind from p → Holding g kind from (holdTrivia placing source p)
+      holds-in p is h =
+          let w = h .holding in
+          record { around = h .around; outside = h .outside; level = h .level; holding = record { behind = w .behind; blank = blank-more (p .held) (place placing p) is (w .blank) } }
+
+      chosen-in : (rest : Matcher → Rule) → ((m : Matcher) → Takes (Holding g kind from) (Holding g kind from) (rest m)) → (choice : Choice) (m : Matcher) (p : At placing) → (choice ≡ holds → isTrivia (kindOf source (place placing p)) ≡ true) → Holding g kind from p
+          → Goes (Holding g kind from) (chosen placing source inner rest choice m p)
+      chosen-in rest goesOn ends m p is h = goes h
+      chosen-in rest goesOn holds m p is h = goesOn m _ (holds-in p (is refl) h)
+      chosen-in rest goesOn (takes what next) m p is h = bind-goes (argument-in what p h) (goesOn next)
+
+      -- at a token, or at the end
+      choiceIf-in : (rest : Matcher → Rule) → ((m : Matcher) → Takes (Holding g kind from) (Holding g kind from) (rest m)) → (t : Bool) (m : Matcher) (p : At placing) → Holding g kind from p
+          → Goes (Holding g kind from) (chosen placing source inner rest (choiceFor placing source inner (cond t (some (kindOf source (place placing p))) none) m p) m p)
+      choiceIf-in rest goesOn true m p h =
+          chosen-in rest goesOn (choose (source .states) (p .list .scope) m (kindOf source (place placing p))) m p (held-is-trivia (source .states) (p .list .scope) m (kindOf source (place placing p))) h
+      choiceIf-in rest goesOn false m p h = goes h
+
+      arguments-in : (n : ℕ) (m : Matcher) → Takes (Holding g kind from) (Holding g kind from) (arguments placing source inner n m)
+      unfolding arguments peek
+      arguments-in zero m p h = goes h
+      arguments-in (suc n) m p h = choiceIf-in (arguments placing source inner n) (arguments-in n) (ltb (place placing p) (tokenCount (source .tokens))) m p h
+
+      -- nothing is held behind a name
+      held-none : (p : At placing) → Named g kind from p → Holding g kind from (holdingNone placing p)
+      held-none p h = record { around = h .around; outside = h .outside; level = h .level; holding = record { behind = h .holding; blank = λ i low high. absurd (omega arith) } }
+
+      matchArguments-in : (m : Matcher) → Takes (Named g kind from) (Holding g kind from) (matchArguments placing source inner m)
+      unfolding matchArguments steps
+      matchArguments-in m p h =
+          let k = held-none p h in
+          bind-goes (arguments-in _ m _ (record { around = k .around; outside = k .outside; level = k .level; holding = record { behind = k .holding .behind; blank = k .holding .blank } }))
+          (λ q r. goes (record { around = r .around; outside = r .outside; level = r .level; holding = record { behind = r .holding .behind; blank = r .holding .blank } }))
+
+    greedyArgument-in : Keep (greedyArgument placing source inner)
+    unfolding greedyArgument
+    greedyArgument-in g p h =
+        let from = place placing p in
+        let kind = SyntaxKind.ClauseArgument in
+        from-goes (start-under kind g p h
+        first under (λ g p h. goes h) g kind from
+        then under (λ g p h. items-in (greedyStops (p .list .scope)) _ g p h) g kind from
+        then under (λ g p h. goes h) g kind from
+        then finish-in (other kind from refl)
+        then done)

@@ -2,6 +2,7 @@
 pub mod Alike
 pub mod Characters
 pub mod Checks
+pub mod Choices
 pub mod Control
 pub mod Flat
 pub mod Goes
