@@ -17,7 +17,7 @@ use Rattle.rules.specs.Items.{Item, plain, error, word, comma, group, at
 use Rattle.rules.specs.Kinds.{isTrivia, isTextComponent}
 use Rattle.rules.specs.Limits
 use Rattle.rules.specs.Matcher.{Matcher, startMatch, isGreedy, formGreedy, formLeft1, formInfixGreedy}
-use Rattle.rules.specs.Outcome.{Out, went, refused, bind, markBeforeNode, tooManyOpen}
+use Rattle.rules.specs.Outcome.{Out, went, refused, bind, greedyEnvironment, markBeforeNode, tooManyOpen}
 use Rattle.rules.specs.Placed.{Placed, Places, leaf, node, none, more, places, leavesIn, leavesAll, Opened, Placing, firstOf, leafed, opened, openedAt, closed, noted, placing, nothing}
 use Rattle.rules.specs.Position.{Shape, Source, At, place, asked, steps, withLexer, withList, withMarks, holdingNone, start, startAt, finish, wrap}
 use Rattle.rules.specs.Reading.{orElse, items, itemList, itemGroup, piece, argument, chosen, choiceFor, arguments, matchArguments, greedyArgument, commandNode, commandOf, environmentArguments, beginClause, endClause, environmentItem, rightClause, itemLr, script, attachmentNode, attachTo, attachComponent, readItem, contentFor, content, contentAt, parse}
@@ -554,3 +554,155 @@ module _ (source : Source) where
         then under (λ g p h. goes h) g kind from
         then finish-in (other kind from refl)
         then done)
+
+    -- ---- commands
+
+    -- a node is open whose command passes: its name, its arguments, its end
+    passing-node : {g : Ground} {from : ℕ} {rest : Rule} {also : List Placed → At placing → Type 0} → passes source SyntaxKind.ItemCmd from ≡ true
+        → Takes (Named g SyntaxKind.ItemCmd from) (Within (droppedPassing source from) also g SyntaxKind.ItemCmd from) rest
+        → Takes (Begun (droppedPassing source from) g SyntaxKind.ItemCmd from) (Here g) (commandNode placing source inner rest tt)
+    unfolding commandNode isBody
+    passing-node passing k = steps-go (name-in then k then finish-passing refl passing then done)
+
+    -- and one whose command is greedy
+    greedy-node : {g : Ground} {from : ℕ} → Plain SyntaxKind.ItemCmd from → Takes (Begun (droppedAll source) g SyntaxKind.ItemCmd from) (Here g) (commandNode placing source inner (greedyArgument placing source inner) tt)
+    unfolding commandNode
+    greedy-node {g} {from} ordinary p h =
+        steps-go (under eat-in g SyntaxKind.ItemCmd from then under greedyArgument-in g SyntaxKind.ItemCmd from then finish-in ordinary then done) p (as-under p h)
+
+    commandOf-in : (s : Shape) (g : Ground) (p : At placing) → greedyName source (place placing p) ≡ among (s .form) greedyForms → Here g p → Goes (Here g) (commandOf placing source inner s p)
+    unfolding commandOf steps
+    commandOf-in s g p is h =
+        let from = place placing p in
+        cond-goes (nameOnly s) (λ e. oneCmd-in g p (cmd-passes from s is (name-not-greedy s e)) h)
+        (λ _. cond-goes (eqb (s .form) formLeft1)
+        (λ e. bind-goes (startCommandAt-begun (droppedPassing source from) (orElse placing source (p .list .last) (p .list .start)) g p (wraps-passing from) h)
+        (steps-go (passing-node (cmd-passes from s is (left1-not-greedy (s .form) e)) (λ q k. goes k)
+        then done)))
+        (λ _. cond-goes (eqb (s .form) formInfixGreedy)
+        (λ e. bind-goes (startCommandAt-begun (droppedAll source) (p .list .start) g (withMarks placing none (p .list .last) p) (wraps-all from) h)
+        (steps-go (greedy-node (cmd-plain from s is (infix-greedy (s .form) e))
+        then done)))
+        (λ _. cond-goes (isGreedy (startMatch (s .form) (s .value)))
+        (λ e. bind-goes (start-begun (droppedAll source) SyntaxKind.ItemCmd g p (wraps-all from) h)
+        (steps-go (greedy-node (cmd-plain from s is (sym (greedy-is (s .form) (s .value)) ∙ e))
+        then done)))
+        (λ e. bind-goes (start-begun (droppedPassing source from) SyntaxKind.ItemCmd g p (wraps-passing from) h)
+        (steps-go (passing-node (cmd-passes from s is (sym (greedy-is (s .form) (s .value)) ∙ e)) (matchArguments-in (startMatch (s .form) (s .value)))
+        then extract-in g
+        then done))))))
+
+    -- ---- environments, left-right bodies, attachments
+
+    environmentArguments-in : (s : Shape) {g : Ground} {kind from : ℕ} → Takes (Named g kind from) (Holding g kind from) (environmentArguments placing source inner s)
+    unfolding environmentArguments
+    environmentArguments-in s p h =
+        cond-goes (nameOnly s) (λ _. goes (held-none p h))
+        (λ _. cond-goes (isGreedy (startMatch (s .form) (s .value))) (λ _. stopped greedyEnvironment (place placing p)) (λ _. matchArguments-in (startMatch (s .form) (s .value)) p h))
+
+    beginClause-in : Keep (beginClause placing source inner)
+    unfolding beginClause isBody passes
+    beginClause-in g p h =
+        let from = place placing p in
+        from-goes (start-begun (droppedPassing source from) SyntaxKind.ItemBegin g p (wraps-passing from) h
+        first name-in
+        then environmentArguments-in (ofClass classEnvironment (source .shape from))
+        then finish-passing refl refl
+        then extract-in g
+        then done)
+
+    endClause-in : Keep (endClause placing source inner)
+    unfolding endClause
+    endClause-in g p h = cond-goes (sees (eqb Token.EndEnvironment) p) (λ _. oneIn-in SyntaxKind.ItemEnd refl g p h) (λ _. goes h)
+
+    environmentItem-in : Keep (environmentItem placing source inner)
+    unfolding environmentItem
+    environmentItem-in g p h =
+        let from = place placing p in
+        let kind = SyntaxKind.ItemEnv in
+        from-goes (start-under kind g p h
+        first under beginClause-in g kind from
+        then under (itemList-in Scope.Environment) g kind from
+        then under endClause-in g kind from
+        then finish-in (other kind from refl)
+        then done)
+
+    rightClause-in : Keep (rightClause placing source inner)
+    unfolding rightClause
+    rightClause-in g p h = cond-goes (sees (eqb Token.Right) p) (λ _. clauseLr-in g p h) (λ _. goes h)
+
+    itemLr-in : Keep (itemLr placing source inner)
+    unfolding itemLr
+    itemLr-in g p h =
+        let from = place placing p in
+        let kind = SyntaxKind.ItemLR in
+        from-goes (start-under kind g p h
+        first under clauseLr-in g kind from
+        then under (itemList-in Scope.LR) g kind from
+        then under rightClause-in g kind from
+        then finish-in (other kind from refl)
+        then done)
+
+    script-in : (hasScript : Bool) → Keep (script placing source inner hasScript)
+    unfolding script
+    script-in true g p h = steps-go (trivia-in g then keeps true g then done) p h
+    script-in false g p h = goes h
+
+    attachmentNode-in : (hasScript : Bool) {g : Ground} {from : ℕ} → Takes (Begun (droppedAll source) g SyntaxKind.ItemAttachComponent from) (Here g) (attachmentNode placing source inner hasScript tt)
+    unfolding attachmentNode
+    attachmentNode-in hasScript {g} {from} p h =
+        let kind = SyntaxKind.ItemAttachComponent in
+        steps-go (under eat-in g kind from then under (script-in hasScript) g kind from then finish-in (other kind from refl) then done) p (as-under p h)
+
+    attachTo-in : (hasScript : Bool) (o : Option ℕ) → Keep (attachTo placing source inner hasScript o)
+    unfolding attachTo
+    attachTo-in hasScript (some mark) g p h =
+        from-goes (wrap-begun (droppedAll source) SyntaxKind.ItemAttachComponent mark g p (wraps-all (place placing p)) h first attachmentNode-in hasScript then done)
+    attachTo-in true none g p h = from-goes (start-begun (droppedAll source) SyntaxKind.ItemAttachComponent g p (wraps-all (place placing p)) h first attachmentNode-in true then done)
+    attachTo-in false none g p h = eat-in g p h
+
+    -- ---- any item
+
+    readItem-in : (single : Bool) (what : Item) (g : Ground) (p : At placing) → Fits source what (place placing p) → Here g p → Goes (Here g) (readItem placing source inner single what p)
+    unfolding readItem attachComponent greedyName
+    readItem-in single plain g p fits h = eat-in g p h
+    readItem-in single error g p fits h = oneIn-in SyntaxKind.TokenError refl g p h
+    readItem-in single word g p fits h = cond-goes single (λ _. singleChar-in g p h) (λ _. text-in g p h)
+    readItem-in single comma g p fits h = text-in g p h
+    readItem-in single (group scope) g p fits h = itemGroup-in scope g p h
+    readItem-in single (attachment hasScript) g p fits h = attachTo-in hasScript (p .list .last) g p h
+    readItem-in single command g p fits h = commandOf-in (ofClass classCommand (source .shape (place placing p))) g p refl h
+    readItem-in single environment g p fits h = environmentItem-in g p h
+    readItem-in single leftRight g p fits h = itemLr-in g p h
+    readItem-in single (skipped kind) g p fits h = skippedBody-in kind g p fits h
+
+    contentIf-in : (t single : Bool) (g : Ground) (p : At placing) → Here g p → Goes (Here g) (contentFor placing source inner (cond t (some (kindOf source (place placing p))) none) single p)
+    contentIf-in true single g p h = readItem-in single (itemOf (kindOf source (place placing p))) g p (item-fits source (place placing p)) h
+    contentIf-in false single g p h = goes h
+
+    content-in : (single : Bool) → Keep (content placing source inner single)
+    unfolding content peek
+    content-in single g p h = contentIf-in (ltb (place placing p) (tokenCount (source .tokens))) single g p h
+
+  contentAt-in : (d : ℕ) (single : Bool) → Keep (contentAt placing source d single)
+  unfolding contentAt
+  contentAt-in zero single g p h = stopped tooManyOpen (place placing p)
+  contentAt-in (suc d) single g p h = content-in (contentAt placing source d) (contentAt-in d) single g p h
+
+  -- at the end: one tree, whose dropped rows are those that were noted
+  pub record Exact (b : Placing) : Type 0 where
+    pub tree : Placed
+    pub children : b .children ≡ tree ∷ []
+    pub dropped : b .dropped ≡ droppedIn source 0 tree
+
+  root-exact : (p : At placing) → Here (below SyntaxKind.ScopeRoot 0 nothing) p → Exact (closed (place placing p) (p .built))
+  unfolding droppedIn isBody passes
+  root-exact p h =
+      let grown = close-grows (place placing p) h in
+      record { tree = node SyntaxKind.ScopeRoot 0 (place placing p) (places (h .inside)); children = grown .children; dropped = grown .dropped }
+
+  pub exactly-noted : Goes (λ p. Exact (p .built)) (parse placing source nothing)
+  unfolding parse steps
+  exactly-noted =
+      bind-goes (itemList-in (contentAt placing source Limits.nodes) (contentAt-in Limits.nodes) Scope.Root (below SyntaxKind.ScopeRoot 0 nothing) _ (in-opens source SyntaxKind.ScopeRoot 0 nothing))
+      (λ p h. goes (root-exact p h))
