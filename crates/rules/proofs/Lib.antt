@@ -7,6 +7,7 @@ pub mod Control
 pub mod Flat
 pub mod Goes
 pub mod Levels
+pub mod Noting
 pub mod OnTree
 pub mod Questions
 pub mod Related
