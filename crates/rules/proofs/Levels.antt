@@ -184,9 +184,9 @@ module _ (source : Source) where
         counts = length-append (g .base) (take k us) ∙ ap (λ (n : ℕ). length (g .base) + n) (length-take-le k us count) ∙ sym sum;
         leaves = omega arith;
         dropped =
-          h .dropped
-          ∙ ap (λ (l : List ℕ). g .dropped ++ l) (ap (λ (l : List Placed). droppedAll source (g .leaves) (places l)) (sym split) ∙ all-more source (take k us) (drop k us) (g .leaves))
-          ∙ sym (append-assoc (g .dropped) (droppedAll source (g .leaves) (places (take k us))) (droppedAll source (g .leaves + leavesAll (places (take k us))) (places (drop k us))));
+            h .dropped
+            ∙ ap (λ (l : List ℕ). g .dropped ++ l) (ap (λ (l : List Placed). droppedAll source (g .leaves) (places l)) (sym split) ∙ all-more source (take k us) (drop k us) (g .leaves))
+            ∙ sym (append-assoc (g .dropped) (droppedAll source (g .leaves) (places (take k us))) (droppedAll source (g .leaves + leavesAll (places (take k us))) (places (drop k us))));
       }
 
   -- a wrap: a node was begun at the mark, and in it one is closed around what came since
@@ -200,13 +200,13 @@ module _ (source : Source) where
       let before = cut .before in
       let since = cut .since in
       let outer : Level (rows (before .leaves)) (below kind place before) (opened place kind mark before) =
-        record { inside = []; parents = rw (cut .counts); children = sym (append-nil (before .children)); leaves = omega arith; dropped = sym (rw none-rows (append-nil (before .dropped))) } in
+      record { inside = []; parents = rw (cut .counts); children = sym (append-nil (before .children)); leaves = omega arith; dropped = sym (rw none-rows (append-nil (before .dropped))) } in
       let inner : Level (droppedAll source (before .leaves)) (below ClauseArgument place (opened place kind mark before)) (opened place ClauseArgument mark (opened place kind mark b)) =
-        record {
-          inside = since;
-          parents = rw (cut .parents, cut .counts);
-          children = cut .children;
-          leaves = cut .leaves;
-          dropped = cut .dropped;
-        } in
+      record {
+        inside = since;
+        parents = rw (cut .parents, cut .counts);
+        children = cut .children;
+        leaves = cut .leaves;
+        dropped = cut .dropped;
+      } in
       level-grows outer (close-grows place inner) (arg-rows ∙ rw none-rows)

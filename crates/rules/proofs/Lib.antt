@@ -4,6 +4,7 @@ pub mod Characters
 pub mod Checks
 pub mod Choices
 pub mod Control
+pub mod Exactly
 pub mod Flat
 pub mod Goes
 pub mod Levels

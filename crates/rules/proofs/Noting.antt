@@ -26,7 +26,7 @@ use Rattle.rules.proofs.Simulation.{Ended, ended, simulation}
 
 -- ---- without places
 
-abbrev trees : List Placed → List Tree
+abbrev pub trees : List Placed → List Tree
 trees [] = []
 trees (t ∷ ts) = bare t ∷ trees ts
 

@@ -1,6 +1,7 @@
 -- Trees that say at which tokens they stand, and the builder that makes them: rowan's, without limits, which notes the place at which it is asked.
 -- "Place: the first token not wholly read, the token count at the end."
 use Prim.Native.Nat.{ℕ, _+_}
+use mathlib.Core.Path.{_≡_}
 use mathlib.Core.Bool.{cond}
 use mathlib.Core.List.{List, [], _∷_, _++_}
 use lib.Dec.{ltb}
@@ -8,6 +9,8 @@ use lib.ListN.{length, take, drop}
 use Rattle.rules.specs.Builder.{Builder, Leaf}
 use Rattle.rules.specs.Flat.{droppedRow}
 use Rattle.rules.specs.Outcome.{Out, went, refused, markBeforeNode}
+use Rattle.rules.specs.Position.{Pos, Source}
+use Rattle.rules.specs.Reading.{parse}
 use Rattle.rules.specs.Rowan.{markPastLast}
 use Rattle.rules.specs.Tree.{Tree, Forest}
 use Rattle.rules.specs.Tree as tree
@@ -112,3 +115,9 @@ placing =
 -- nothing was built yet
 abbrev pub nothing : Placing
 nothing = record { parents = []; children = []; leaves = 0; dropped = [] }
+
+-- this is the tree, with its places, of what is read
+pub record TreeOf (source : Source) (t : Placed) : Type 0 where
+  pub end : Pos Placing ℕ
+  pub run : parse placing source nothing ≡ went end
+  pub is : end .built .children ≡ t ∷ []
