@@ -6,7 +6,7 @@ use mathlib.Core.Bool.{Bool, true, false, cond, not, _&&_, _||_, true≢false, f
 use mathlib.Core.List.{List, [], _∷_}
 use lib.Dec.{eqb}
 use borrow.Author.Tests.{eqb-true}
-use Rattle.rules.specs.Exactly.{kindOf, isBody}
+use Rattle.rules.specs.Exactly.{kindOf, isBlank, isBody}
 use Rattle.rules.specs.Items.{Item, plain, error, word, comma, group, attachment, command, environment, leftRight, skipped, itemOf, Choice, ends, holds, takes, Piece, ifTried, ifMatched, choose, nameOnly}
 use Rattle.rules.specs.Kinds.{isTrivia}
 use Rattle.rules.specs.Matcher
@@ -48,7 +48,7 @@ held-if false at-end e = absurd (false≢true (ap isHolds e))
 held-if false taking e = absurd (false≢true (ap isHolds e))
 
 -- "Trivia is held", and nothing else
-pub held-is-trivia : (states : List ℕ) (scope : Scope) (m : Matcher) (kind : ℕ) → choose states scope m kind ≡ holds → isTrivia kind ≡ true
+held-is-trivia : (states : List ℕ) (scope : Scope) (m : Matcher) (kind : ℕ) → choose states scope m kind ≡ holds → isTrivia kind ≡ true
 unfolding choose
 held-is-trivia states scope m kind e =
     held-if (isTrivia kind)
@@ -59,6 +59,10 @@ held-is-trivia states scope m kind e =
     (either (eqb kind Token.LeftParen) (matched _ (matchAsTerm states m Matcher.paren))
     (either (stops scope kind) at-end (tried _ (tryMatch states m Matcher.term))))))))
     e
+
+pub held-is-blank : (source : Source) (scope : Scope) (m : Matcher) (token : ℕ) → choose (source .states) scope m (kindOf source token) ≡ holds → isBlank source token ≡ true
+unfolding isTrivia isBlank
+held-is-blank source scope m token e = held-is-trivia (source .states) scope m (kindOf source token) e
 
 -- ---- greedy
 

@@ -11,7 +11,7 @@ use lib.ListN.{length}
 use borrow.Author.Tests.{ltb-true, ltb-false, eqb-true}
 use Rattle.rules.specs.Builder.{Leaf}
 use Rattle.rules.specs.Cursor.{peek, eaten, left}
-use Rattle.rules.specs.Exactly.{kindOf, greedyName, passes, triviaFrom, passedBefore, isBody, closing, closerRow, closerOf, droppedIn, droppedAll, droppedPassing}
+use Rattle.rules.specs.Exactly.{kindOf, isBlank, opensIf, greedyName, passes, blanksFrom, passedBefore, isBody, closing, closerRow, closerOf, droppedIn, droppedAll, droppedPassing}
 use Rattle.rules.specs.Flat.{droppedRow, reasonTrivia, reasonOpener, reasonCloser}
 use Rattle.rules.specs.Items.{Item, plain, error, word, comma, group, attachment, command, environment, leftRight, skipped, itemOf, isCommandName, isIf, groupKind, closer, Piece, character, within, brace, item, Choice, ends, holds, takes, choose, greedyStops, nameOnly, classCommand, classEnvironment, ofClass}
 use Rattle.rules.specs.Kinds.{isTrivia, isTextComponent}
@@ -28,7 +28,7 @@ use Rattle.rules.specs.Scope.{Scope, among, stops}
 use Rattle.rules.specs.SyntaxKind
 use Rattle.rules.specs.Tables.{kindAt, tokenCount}
 use Rattle.rules.specs.Token
-use Rattle.rules.proofs.Choices.{held-is-trivia, greedyForms, greedy-is, name-not-greedy, left1-not-greedy, infix-greedy, Fits, item-fits}
+use Rattle.rules.proofs.Choices.{held-is-blank, greedyForms, greedy-is, name-not-greedy, left1-not-greedy, infix-greedy, Fits, item-fits}
 use Rattle.rules.proofs.Goes.{Goes, goes, stopped, Takes, Line, done, _then_, From, _first_, from-goes, bind-goes, weaker-goes, cond-goes, steps-go}
 use Rattle.rules.proofs.Levels.{leaves-more, all-more, all-one, lastEnd, lastEnd-more, passing-more, Ground, below, Level, level-opens, Grown, level-grows, leaf-grows, close-grows, In, in-opens, in-grows, in-leaf, Cut, in-cut, wrapped}
 
@@ -231,7 +231,7 @@ module _ (source : Source) where
         (cond (eqb nested 0) (dropNext placing source reasonCloser p) (bind (eat placing source p) (λ q. eatBodyOfIfs placing source n (nested - 1) q)))
         (cond (asked isIf o) (bind (eat placing source p) (λ q. eatBodyOfIfs placing source n (nested + 1) q))
         (cond (asked (λ kind. true) o) (bind (eat placing source p) (λ q. eatBodyOfIfs placing source n nested q)) (went p))))
-    unfolding closing
+    unfolding closing opensIf
     turn-body n nested rest p true e few h =
         let more = ltb-true (place placing p) (tokenCount (source .tokens)) e in
         let one : tokenCount (source .tokens) - place placing p ≡ suc (tokenCount (source .tokens) - (place placing p + 1)) = omega arith in
@@ -239,7 +239,7 @@ module _ (source : Source) where
         rw one
         (cond-body (eqb Token.EndIf (kindOf source (place placing p)))
         (λ _. cond-body (eqb nested 0) (λ _. close-body p h) (λ _. eaten-body n (nested - 1) rest p fewer h))
-        (λ _. cond-body (isIf (kindOf source (place placing p))) (λ _. eaten-body n (nested + 1) rest p fewer h) (λ _. eaten-body n nested rest p fewer h)))
+        (λ _. cond-body (opensIf source (place placing p)) (λ _. eaten-body n (nested + 1) rest p fewer h) (λ _. eaten-body n nested rest p fewer h)))
     turn-body n nested rest p false e few h =
         let past = ltb-false (place placing p) (tokenCount (source .tokens)) e in
         let nothing-left : tokenCount (source .tokens) - place placing p ≡ 0 = omega arith in
@@ -288,7 +288,7 @@ module _ (source : Source) where
   wraps-all from = record { of-none = λ n. refl; of-argument = λ n us. append-nil (droppedAll source n (places us)) }
 
   wraps-passing : (from : ℕ) → Wraps (droppedPassing source from) from
-  unfolding droppedIn isBody passes triviaFrom
+  unfolding droppedIn isBody passes blanksFrom
   wraps-passing from =
       let nothing-between : from - from ≡ 0 = omega arith in
       record { of-none = λ n. refl; of-argument = λ n us. rw nothing-between (append-nil (droppedAll source n (places us))) }
@@ -352,7 +352,7 @@ module _ (source : Source) where
   -- trivia behind that is held
   record Held (from : ℕ) (us : List Placed) (p : At placing) : Type 0 where
     behind : lastEnd source from us ≡ p .held
-    blank : (i : ℕ) → p .held ≤ i → i < place placing p → isTrivia (kindOf source i) ≡ true
+    blank : (i : ℕ) → p .held ≤ i → i < place placing p → isBlank source i ≡ true
 
   abbrev Holding : Ground → ℕ → ℕ → At placing → Type 0
   Holding g kind from p = Within (droppedPassing source from) (Held from) g kind from p
@@ -390,20 +390,20 @@ module _ (source : Source) where
     dropped : after .dropped ≡ b .dropped ++ rows
 
   abbrev Blank : ℕ → ℕ → Type 0
-  Blank from to = (i : ℕ) → from ≤ i → i < to → isTrivia (kindOf source i) ≡ true
+  Blank from to = (i : ℕ) → from ≤ i → i < to → isBlank source i ≡ true
 
-  blank-at : (from to i : ℕ) (t : Bool) → ltb i to ≡ t → isTrivia (kindOf source to) ≡ true → Blank from to → from ≤ i → i < to + 1 → isTrivia (kindOf source i) ≡ true
+  blank-at : (from to i : ℕ) (t : Bool) → ltb i to ≡ t → isBlank source to ≡ true → Blank from to → from ≤ i → i < to + 1 → isBlank source i ≡ true
   blank-at from to i true e is blank low high = blank i low (ltb-true i to e)
   blank-at from to i false e is blank low high =
       let past = ltb-false i to e in
       let same : i ≡ to = omega arith in
       rw same is
 
-  blank-more : (from to : ℕ) → isTrivia (kindOf source to) ≡ true → Blank from to → Blank from (to + 1)
+  blank-more : (from to : ℕ) → isBlank source to ≡ true → Blank from to → Blank from (to + 1)
   blank-more from to is blank i low high = blank-at from to i (ltb i to) refl is blank low high
 
-  lost : (n i : ℕ) (b : Placing) → Blank i (i + n) → Lost (triviaFrom source n i (b .leaves)) b (dropFrom placing source n i b)
-  unfolding dropFrom triviaFrom noted
+  lost : (n i : ℕ) (b : Placing) → Blank i (i + n) → Lost (blanksFrom source n i (b .leaves)) b (dropFrom placing source n i b)
+  unfolding dropFrom blanksFrom noted
   lost zero i b blank = record { parents = refl; children = refl; leaves = refl; dropped = sym (append-nil (b .dropped)) }
   lost (suc n) i b blank =
       let rest = lost n (i + 1) (noted i reasonTrivia b) (λ j low high. blank j (omega arith) (omega arith)) in
@@ -411,7 +411,7 @@ module _ (source : Source) where
         parents = rest .parents;
         children = rest .children;
         leaves = rest .leaves;
-        dropped = rest .dropped ∙ append-assoc (b .dropped) (droppedRow i reasonTrivia (b .leaves)) (triviaFrom source n (i + 1) (b .leaves)) ∙ rw (blank i (omega arith) (omega arith)) refl;
+        dropped = rest .dropped ∙ append-assoc (b .dropped) (droppedRow i reasonTrivia (b .leaves)) (blanksFrom source n (i + 1) (b .leaves)) ∙ rw (blank i (omega arith) (omega arith)) refl;
       }
 
   -- and then a child more
@@ -426,7 +426,7 @@ module _ (source : Source) where
 
   -- an argument, behind trivia that is dropped, of a node that passes it: the node then ends where the argument does
   argument-grows : {g : Ground} {b between after : Placing} (from held place to : ℕ) (h : Level (droppedPassing source from (g .leaves)) g b) → lastEnd source from (h .inside) ≡ held
-      → Lost (triviaFrom source (place - held) held (b .leaves)) b between
+      → Lost (blanksFrom source (place - held) held (b .leaves)) b between
       → Level (droppedAll source (between .leaves)) (below SyntaxKind.ClauseArgument place between) after
       → (l : Level (droppedPassing source from (g .leaves)) g (closed to after)) × (lastEnd source from (l .inside) ≡ to)
   unfolding droppedIn isBody passes level-grows
@@ -509,12 +509,12 @@ module _ (source : Source) where
           }))
 
       -- trivia is held
-      holds-in : (p : At placing) → isTrivia (kindOf source (place placing p)) ≡ true → Holding g kind from p → Holding g kind from (holdTrivia placing source p)
+      holds-in : (p : At placing) → isBlank source (place placing p) ≡ true → Holding g kind from p → Holding g kind from (holdTrivia placing source p)
       holds-in p is h =
           let w = h .holding in
           record { around = h .around; outside = h .outside; level = h .level; holding = record { behind = w .behind; blank = blank-more (p .held) (place placing p) is (w .blank) } }
 
-      chosen-in : (rest : Matcher → Rule) → ((m : Matcher) → Takes (Holding g kind from) (Holding g kind from) (rest m)) → (choice : Choice) (m : Matcher) (p : At placing) → (choice ≡ holds → isTrivia (kindOf source (place placing p)) ≡ true) → Holding g kind from p
+      chosen-in : (rest : Matcher → Rule) → ((m : Matcher) → Takes (Holding g kind from) (Holding g kind from) (rest m)) → (choice : Choice) (m : Matcher) (p : At placing) → (choice ≡ holds → isBlank source (place placing p) ≡ true) → Holding g kind from p
           → Goes (Holding g kind from) (chosen placing source inner rest choice m p)
       chosen-in rest goesOn ends m p is h = goes h
       chosen-in rest goesOn holds m p is h = goesOn m _ (holds-in p (is refl) h)
@@ -524,7 +524,7 @@ module _ (source : Source) where
       choiceIf-in : (rest : Matcher → Rule) → ((m : Matcher) → Takes (Holding g kind from) (Holding g kind from) (rest m)) → (t : Bool) (m : Matcher) (p : At placing) → Holding g kind from p
           → Goes (Holding g kind from) (chosen placing source inner rest (choiceFor placing source inner (cond t (some (kindOf source (place placing p))) none) m p) m p)
       choiceIf-in rest goesOn true m p h =
-          chosen-in rest goesOn (choose (source .states) (p .list .scope) m (kindOf source (place placing p))) m p (held-is-trivia (source .states) (p .list .scope) m (kindOf source (place placing p))) h
+          chosen-in rest goesOn (choose (source .states) (p .list .scope) m (kindOf source (place placing p))) m p (held-is-blank source (p .list .scope) m (place placing p)) h
       choiceIf-in rest goesOn false m p h = goes h
 
       arguments-in : (n : ℕ) (m : Matcher) → Takes (Holding g kind from) (Holding g kind from) (arguments placing source inner n m)

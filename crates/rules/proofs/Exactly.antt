@@ -10,10 +10,9 @@ use lib.Dec.{eqb}
 use lib.ListN.{length, take, drop, length-append}
 use lib.Seq.{take-append-seam}
 use Rattle.rules.specs.Checks.{Tables, Refusal, checks, sourceOf}
-use Rattle.rules.specs.Exactly.{kindOf, passes, triviaFrom, passedBefore, endOf, isBody, closerRow, closerOf, droppedIn, droppedAll, droppedPassing, dropped}
+use Rattle.rules.specs.Exactly.{isBlank, passes, blanksFrom, passedBefore, endOf, isBody, closerRow, closerOf, droppedIn, droppedAll, droppedPassing, dropped}
 use Rattle.rules.specs.Flat
 use Rattle.rules.specs.Flat.{Built, Mark, flat, droppedRow, reasonTrivia, reasonOpener, reasonCloser}
-use Rattle.rules.specs.Kinds.{isTrivia}
 use Rattle.rules.specs.Limits
 use Rattle.rules.specs.Outcome.{Out, went, refused}
 use Rattle.rules.specs.Placed.{Placed, Places, Placing, leaf, none, more, leavesIn, leavesAll, bare, placing, TreeOf}
@@ -53,15 +52,15 @@ cond-rows true l k h g = h
 cond-rows false l k h g = g
 
 module _ (source : Source) where
-  trivia-rows : (n token leaves : ℕ) → Rows (triviaFrom source n token leaves)
-  unfolding triviaFrom
-  trivia-rows zero token leaves = none-rows
-  trivia-rows (suc n) token leaves =
-      more-rows (cond (isTrivia (kindOf source token)) (droppedRow token reasonTrivia leaves) []) (triviaFrom source n (token + 1) leaves) (cond-rows (isTrivia (kindOf source token)) (droppedRow token reasonTrivia leaves) [] (row-rows token reasonTrivia leaves) none-rows) (trivia-rows n (token + 1) leaves)
+  blanks-rows : (n token leaves : ℕ) → Rows (blanksFrom source n token leaves)
+  unfolding blanksFrom
+  blanks-rows zero token leaves = none-rows
+  blanks-rows (suc n) token leaves =
+      more-rows (cond (isBlank source token) (droppedRow token reasonTrivia leaves) []) (blanksFrom source n (token + 1) leaves) (cond-rows (isBlank source token) (droppedRow token reasonTrivia leaves) [] (row-rows token reasonTrivia leaves) none-rows) (blanks-rows n (token + 1) leaves)
 
   passed-rows : (behind : ℕ) (t : Placed) (leaves : ℕ) → Rows (passedBefore source behind t leaves)
   passed-rows behind (leaf l) leaves = none-rows
-  passed-rows behind (placed.node kind from to inside) leaves = cond-rows (eqb kind ClauseArgument) (triviaFrom source (from - behind) behind leaves) [] (trivia-rows (from - behind) behind leaves) none-rows
+  passed-rows behind (placed.node kind from to inside) leaves = cond-rows (eqb kind ClauseArgument) (blanksFrom source (from - behind) behind leaves) [] (blanks-rows (from - behind) behind leaves) none-rows
 
   closer-rows : (o : Option ℕ) (leaves : ℕ) → Rows (closerRow source o leaves)
   closer-rows none leaves = none-rows

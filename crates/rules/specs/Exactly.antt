@@ -8,8 +8,7 @@ use mathlib.Core.List.{List, [], _∷_, _++_}
 use mathlib.Core.Option.{Option, none, some}
 use lib.Dec.{eqb}
 use Rattle.rules.specs.Flat.{droppedRow, reasonTrivia, reasonOpener, reasonCloser}
-use Rattle.rules.specs.Items.{isIf, classCommand, ofClass}
-use Rattle.rules.specs.Kinds.{isTrivia}
+use Rattle.rules.specs.Items.{classCommand, ofClass}
 use Rattle.rules.specs.Matcher.{formGreedy, formInfixGreedy}
 use Rattle.rules.specs.Placed.{Placed, Places, leaf, node, none, more, leavesIn, leavesAll}
 use Rattle.rules.specs.Position.{Source, Shape}
@@ -32,15 +31,19 @@ module _ (source : Source) where
   unfoldable pub passes : ℕ → ℕ → Bool
   passes kind from = eqb kind SyntaxKind.ItemBegin || (eqb kind SyntaxKind.ItemCmd && not (greedyName from))
 
-  -- "the blanks, breaks and comments" among so many tokens from one on, with the leaves written before
-  unfoldable pub triviaFrom : ℕ → ℕ → ℕ → List ℕ
-  triviaFrom zero token leaves = []
-  triviaFrom (suc n) token leaves = cond (isTrivia (kindOf token)) (droppedRow token reasonTrivia leaves) [] ++ triviaFrom n (token + 1) leaves
+  -- "the blanks, breaks and comments"
+  unfoldable pub isBlank : ℕ → Bool
+  isBlank token = among (kindOf token) (Token.LineBreak ∷ Token.Whitespace ∷ Token.LineComment ∷ [])
+
+  -- those among so many tokens from one on, with the leaves written before
+  unfoldable pub blanksFrom : ℕ → ℕ → ℕ → List ℕ
+  blanksFrom zero token leaves = []
+  blanksFrom (suc n) token leaves = cond (isBlank token) (droppedRow token reasonTrivia leaves) [] ++ blanksFrom n (token + 1) leaves
 
   -- what stands between the end of what the node has read so far and an argument that it then accepted
   abbrev pub passedBefore : ℕ → Placed → ℕ → List ℕ
   passedBefore behind (leaf l) leaves = []
-  passedBefore behind (node kind from to inside) leaves = cond (eqb kind SyntaxKind.ClauseArgument) (triviaFrom (from - behind) behind leaves) []
+  passedBefore behind (node kind from to inside) leaves = cond (eqb kind SyntaxKind.ClauseArgument) (blanksFrom (from - behind) behind leaves) []
 
   -- where a child ends: behind its token, or at the place at which it was ended
   abbrev pub endOf : Placed → ℕ
@@ -53,12 +56,16 @@ module _ (source : Source) where
   isBody kind from =
       (eqb kind SyntaxKind.ItemBlockComment && eqb (kindOf from) Token.IfFalse) || (eqb kind SyntaxKind.ItemTypstCode && eqb (kindOf from) Token.IfTypst)
 
+  -- "33 IfFalse, 34 IfTypst, 35 any other If": "Counting only `\iffalse` in a nested body" is a slip
+  unfoldable pub opensIf : ℕ → Bool
+  opensIf token = among (kindOf token) (Token.IfFalse ∷ Token.IfTypst ∷ Token.If ∷ [])
+
   -- "that body's closing \fi": among so many tokens from one on, the first \fi that closes no \if of those that stand inside, of which so many are still unclosed
   unfoldable pub closing : ℕ → ℕ → ℕ → Option ℕ
   closing zero unclosed token = none
   closing (suc n) unclosed token =
       cond (eqb Token.EndIf (kindOf token)) (cond (eqb unclosed 0) (some token) (closing n (unclosed - 1) (token + 1)))
-      (cond (isIf (kindOf token)) (closing n (unclosed + 1) (token + 1)) (closing n unclosed (token + 1)))
+      (cond (opensIf token) (closing n (unclosed + 1) (token + 1)) (closing n unclosed (token + 1)))
 
   -- "if it has one"
   abbrev pub closerRow : Option ℕ → ℕ → List ℕ
