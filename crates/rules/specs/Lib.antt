@@ -22,4 +22,5 @@ pub mod Questions
 pub mod Rowan
 pub mod Placed
 pub mod Exactly
+pub mod DroppedCases
 pub mod Cases
