@@ -11,6 +11,7 @@ pub mod Levels
 pub mod Noting
 pub mod OnTree
 pub mod Questions
+pub mod Reasons
 pub mod Related
 pub mod Render
 pub mod Room
