@@ -2,7 +2,7 @@
 -- its opener. Assumes nothing.
 use Prim.Native.Nat.{ℕ}
 use mathlib.Core.Path.{_≡_, refl, sym, ap, _∙_}
-use mathlib.Core.Bool.{Bool, true, false, cond, not, _&&_, _||_, true≢false, false≢true}
+use mathlib.Core.Bool.{Bool, true, false, cond, _&&_, _||_, false≢true}
 use mathlib.Core.List.{List, [], _∷_}
 use lib.Dec.{eqb}
 use borrow.Author.Tests.{eqb-true}
@@ -12,7 +12,6 @@ use Rattle.rules.specs.Kinds.{isTrivia}
 use Rattle.rules.specs.Matcher
 use Rattle.rules.specs.Matcher.{Matcher, startMatch, startAtMost, isGreedy, tryMatch, matchAsTerm, formNone, formFixed, formRange, formGreedy, formGlob, formLeft1, formInfixGreedy}
 use Rattle.rules.specs.Position.{Shape, Source}
-use Rattle.rules.specs.Scope
 use Rattle.rules.specs.Scope.{Scope, among, stops}
 use Rattle.rules.specs.SyntaxKind
 use Rattle.rules.specs.Token

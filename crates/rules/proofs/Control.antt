@@ -8,29 +8,29 @@ use mathlib.Core.Option.{Option, none, some}
 use native.Mathlib.Omega.{arith}
 use lib.Dec.{eqb, ltb}
 use lib.ListN.{length}
-use borrow.Author.Tests.{ltb-true, ltb-false, eqb-true}
+use borrow.Author.Tests.{ltb-true, ltb-false}
 use Rattle.rules.specs.Builder.{Leaf}
-use Rattle.rules.specs.Cursor.{peek, eaten, left}
-use Rattle.rules.specs.Exactly.{kindOf, isBlank, opensIf, greedyName, passes, blanksFrom, passedBefore, isBody, closing, closerRow, closerOf, droppedIn, droppedAll, droppedPassing}
+use Rattle.rules.specs.Cursor.{peek, left}
+use Rattle.rules.specs.Exactly.{kindOf, isBlank, opensIf, greedyName, passes, blanksFrom, isBody, closing, closerRow, closerOf, droppedIn, droppedAll, droppedPassing}
 use Rattle.rules.specs.Flat.{droppedRow, reasonTrivia, reasonOpener, reasonCloser}
 use Rattle.rules.specs.Items.{Item, plain, error, word, comma, group, attachment, command, environment, leftRight, skipped, itemOf, isCommandName, isIf, groupKind, closer, Piece, character, within, brace, item, Choice, ends, holds, takes, choose, greedyStops, nameOnly, classCommand, classEnvironment, ofClass}
 use Rattle.rules.specs.Kinds.{isTrivia, isTextComponent}
 use Rattle.rules.specs.Limits
-use Rattle.rules.specs.Matcher.{Matcher, startMatch, isGreedy, formGreedy, formLeft1, formInfixGreedy}
-use Rattle.rules.specs.Outcome.{Out, went, refused, bind, greedyEnvironment, markBeforeNode, tooManyOpen}
-use Rattle.rules.specs.Placed.{Placed, Places, leaf, node, none, more, places, leavesIn, leavesAll, Opened, Placing, firstOf, leafed, opened, openedAt, closed, noted, placing, nothing}
-use Rattle.rules.specs.Position.{Shape, Source, At, place, asked, steps, withLexer, withList, withMarks, holdingNone, start, startAt, finish, wrap}
+use Rattle.rules.specs.Matcher.{Matcher, startMatch, isGreedy, formLeft1, formInfixGreedy}
+use Rattle.rules.specs.Outcome.{Out, went, bind, greedyEnvironment, markBeforeNode, tooManyOpen}
+use Rattle.rules.specs.Placed.{Placed, Places, leaf, node, none, more, places, leavesIn, leavesAll, Placing, firstOf, leafed, opened, openedAt, closed, noted, placing, nothing}
+use Rattle.rules.specs.Position.{Shape, Source, At, place, asked, steps, withMarks, holdingNone, start, finish, wrap}
 use Rattle.rules.specs.Reading.{orElse, items, itemList, itemGroup, piece, argument, chosen, choiceFor, arguments, matchArguments, greedyArgument, commandNode, commandOf, environmentArguments, beginClause, endClause, environmentItem, rightClause, itemLr, script, attachmentNode, attachTo, attachComponent, readItem, contentFor, content, contentAt, parse}
 use Rattle.rules.specs.Routines.{eatAs, eat, eatIf, eatWhile, turns, trivia, singleChar, oneIn, holdTrivia, dropFrom, ignoreHoldingTrivia, leavesFrom, extractHoldingTrivia, text, delimiterOf, delimiter, clauseLr, dropNext, eatBodyOfIfs, skippedBody, startCommandAt}
 use Rattle.rules.specs.Rowan.{markPastLast}
 use Rattle.rules.specs.Scope
 use Rattle.rules.specs.Scope.{Scope, among, stops}
 use Rattle.rules.specs.SyntaxKind
-use Rattle.rules.specs.Tables.{kindAt, tokenCount}
+use Rattle.rules.specs.Tables.{tokenCount}
 use Rattle.rules.specs.Token
 use Rattle.rules.proofs.Choices.{held-is-blank, greedyForms, greedy-is, name-not-greedy, left1-not-greedy, infix-greedy, Fits, item-fits}
-use Rattle.rules.proofs.Goes.{Goes, goes, stopped, Takes, Line, done, _then_, From, _first_, from-goes, bind-goes, weaker-goes, cond-goes, steps-go}
-use Rattle.rules.proofs.Levels.{leaves-more, all-more, all-one, lastEnd, lastEnd-more, passing-more, Ground, below, Level, level-opens, Grown, level-grows, leaf-grows, close-grows, In, in-opens, in-grows, in-leaf, Cut, in-cut, wrapped}
+use Rattle.rules.proofs.Goes.{Goes, goes, stopped, Takes, done, _then_, _first_, from-goes, bind-goes, weaker-goes, cond-goes, steps-go}
+use Rattle.rules.proofs.Levels.{lastEnd, lastEnd-more, passing-more, Ground, below, Level, level-opens, Grown, level-grows, leaf-grows, close-grows, In, in-opens, in-grows, in-leaf, Cut, in-cut, wrapped}
 
 -- a rule over the builder that notes places
 abbrev Rule : Type 0

@@ -2,7 +2,7 @@
 -- kinds of the tokens. The run's rows are those of that tree. Assumes nothing.
 use Prim.Native.Nat.{ℕ, _*_, _/_}
 use mathlib.Core.Path.{_≡_, refl, sym, ap, _∙_}
-use mathlib.Core.List.{List, [], _∷_, _++_}
+use mathlib.Core.List.{List, [], _∷_}
 use mathlib.Core.Option.{Option, none, some}
 use native.Mathlib.Omega.{arith}
 use lib.ListN.{length, take, drop}
@@ -23,7 +23,7 @@ use Rattle.rules.proofs.Alike as alike
 use Rattle.rules.proofs.Control.{exactly-noted}
 use Rattle.rules.proofs.Goes.{went-goes}
 use Rattle.rules.proofs.Noting.{trees, noted-run, accepted-noted}
-use Rattle.rules.proofs.Reasons.{Reasoned, whole-rows, Rows, dropped-rows}
+use Rattle.rules.proofs.Reasons.{Reasoned, whole-rows, dropped-rows}
 
 -- ---- runs
 

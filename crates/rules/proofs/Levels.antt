@@ -1,15 +1,14 @@
 -- What was dropped and the tree with its places, at each open node: the rows so far are those of the children so far. Laws of how a level is opened, grows by
 -- a child and is closed. Assumes nothing.
-use Prim.Native.Nat.{ℕ, zero, suc, _+_, _-_, _≤_, _<_}
+use Prim.Native.Nat.{ℕ, _+_, _-_, _≤_}
 use mathlib.Core.Path.{_≡_, refl, sym, ap, _∙_}
-use mathlib.Core.Bool.{Bool, true, false, cond}
 use mathlib.Core.List.{List, [], _∷_, _++_, append-assoc, append-nil}
 use native.Mathlib.Omega.{arith}
 use lib.ListN.{length, take, drop, length-append, take-append-drop}
 use lib.Seq.{take-append-seam, drop-append-seam, length-take-le}
 use Rattle.rules.specs.Builder.{Leaf}
-use Rattle.rules.specs.Exactly.{passes, passedBefore, endOf, isBody, droppedIn, droppedAll, droppedPassing}
-use Rattle.rules.specs.Placed.{Placed, Places, leaf, node, none, more, places, leavesIn, leavesAll, Opened, Placing, leafed, opened, closed, noted}
+use Rattle.rules.specs.Exactly.{passedBefore, endOf, droppedIn, droppedAll, droppedPassing}
+use Rattle.rules.specs.Placed.{Placed, Places, leaf, node, none, more, places, leavesIn, leavesAll, Opened, Placing, leafed, opened, closed}
 use Rattle.rules.specs.Position.{Source}
 use Rattle.rules.specs.SyntaxKind.{ClauseArgument}
 

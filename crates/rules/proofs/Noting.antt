@@ -1,6 +1,6 @@
 -- Rowan's builder and the one that notes places stand for each other: without its places, what the second holds is what the first holds. So where rowan's run is
 -- accepted the other is too, with the same tree and the same dropped rows. Assumes nothing.
-use Prim.Native.Nat.{ℕ, zero, suc, _+_, _/_, _≤_}
+use Prim.Native.Nat.{ℕ, zero, suc, _+_, _/_}
 use mathlib.Core.Path.{_≡_, refl, sym, ap, ap₂, subst, _∙_}
 use mathlib.Core.Bool.{Bool, true, false, cond}
 use mathlib.Core.List.{List, [], _∷_, _++_}
@@ -12,14 +12,14 @@ use Rattle.rules.specs.Flat.{droppedRow}
 use Rattle.rules.specs.Limits.{treeWidth, nodes}
 use Rattle.rules.specs.Outcome.{Out, went, refused, markBeforeNode, tooManyOpen, noRoom}
 use Rattle.rules.specs.Placed
-use Rattle.rules.specs.Placed.{Placed, Places, places, bare, bares, Opened, Placing, placing}
+use Rattle.rules.specs.Placed.{Placed, places, bare, bares, Opened, Placing, placing}
 use Rattle.rules.specs.Position.{Pos, Source}
 use Rattle.rules.specs.Reading.{parse}
 use Rattle.rules.specs.Rowan
 use Rattle.rules.specs.Rowan.{Parent, Green, firstOf, markPastLast, rowan}
 use Rattle.rules.specs.SyntaxKind.{ScopeRoot}
 use Rattle.rules.specs.Tree as tree
-use Rattle.rules.specs.Tree.{Tree, Forest, forest, nodeOf}
+use Rattle.rules.specs.Tree.{Tree, Forest, forest}
 use Rattle.rules.proofs.Related.{OutRel, went~, refused~, skipped~, weaker~}
 use Rattle.rules.proofs.Sim.{Sub, nil, keep, omit, Node, Level, World, node, _◂_, innermost, Sim}
 use Rattle.rules.proofs.Simulation.{Ended, ended, simulation}
@@ -56,10 +56,6 @@ trees-forest : (ts : List Placed) → forest (trees ts) ≡ bares (places ts)
 unfolding bares
 trees-forest [] = refl
 trees-forest (t ∷ ts) = ap (λ (f : Forest). tree.more (bare t) f) (trees-forest ts)
-
-opens-length : (ps : List Opened) → length (opens ps) ≡ length ps
-opens-length [] = refl
-opens-length (p ∷ ps) = ap suc (opens-length ps)
 
 opens-first : (ps : List Opened) → firstOf (opens ps) ≡ Placed.firstOf ps
 opens-first [] = refl

@@ -8,7 +8,7 @@ use mathlib.Core.Option.{Option, none, some}
 use native.Mathlib.Omega.{arith}
 use lib.Dec.{eqb}
 use lib.ListN.{length}
-use Rattle.rules.specs.Exactly.{kindOf, isBlank, opensIf, passes, blanksFrom, passedBefore, endOf, isBody, closing, closerRow, closerOf, droppedIn, droppedAll, droppedPassing}
+use Rattle.rules.specs.Exactly.{kindOf, isBlank, opensIf, passes, blanksFrom, passedBefore, endOf, isBody, closing, closerRow, droppedIn, droppedAll, droppedPassing}
 use Rattle.rules.specs.Flat.{droppedRow, reasonTrivia, reasonOpener, reasonCloser}
 use Rattle.rules.specs.Limits
 use Rattle.rules.specs.Placed.{Placed, Places, leaf, node, none, more, leavesIn, leavesAll}

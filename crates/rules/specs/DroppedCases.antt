@@ -21,7 +21,7 @@ use Rattle.rules.specs.Reading as Reading
 use Rattle.rules.specs.Checks as Checks
 use Rattle.rules.specs.Run as Run
 use Rattle.rules.specs.Placed as Placed
-use Rattle.rules.specs.Placed.{Placing, places, placing}
+use Rattle.rules.specs.Placed.{places, placing}
 use Rattle.rules.specs.Exactly as Exactly
 use Rattle.rules.specs.Reading.{parse}
 use Rattle.rules.specs.Token

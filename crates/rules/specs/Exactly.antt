@@ -11,7 +11,7 @@ use Rattle.rules.specs.Flat.{droppedRow, reasonTrivia, reasonOpener, rea
 use Rattle.rules.specs.Items.{classCommand, ofClass}
 use Rattle.rules.specs.Matcher.{formGreedy, formInfixGreedy}
 use Rattle.rules.specs.Placed.{Placed, Places, leaf, node, none, more, leavesIn, leavesAll}
-use Rattle.rules.specs.Position.{Source, Shape}
+use Rattle.rules.specs.Position.{Source}
 use Rattle.rules.specs.Scope.{among}
 use Rattle.rules.specs.SyntaxKind
 use Rattle.rules.specs.Tables.{kindAt, tokenCount}
