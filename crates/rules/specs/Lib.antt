@@ -21,5 +21,8 @@ pub mod Tree
 pub mod Questions
 pub mod Rowan
 pub mod PutBack
+pub mod Placed
+pub mod Exactly
+pub mod DroppedCases
 pub mod Cases
 pub mod PutBackCases
