@@ -1,5 +1,5 @@
 # The README's two commands, and the Rust beside the port.
-.PHONY: test run oracle record oracle-test
+.PHONY: test run ffi ffi-test oracle record oracle-test
 
 # The gate: layout, proofs, must-fail edits, programs.
 test:
@@ -8,6 +8,17 @@ test:
 # What there is to run.
 run:
 	@echo "Nothing runs yet: the program treelist is still to come. 'make test' proves what there is."
+
+# The proved parser as a static library for C and Rust: target/staticlib/libffi.a, beside include/cartglaze.h.
+ffi:
+	rt staticlib ffi
+
+# The library through its C header and through the safe Rust crate: what both print is compared with what is stored.
+ffi-test: ffi
+	mkdir -p target/ffi
+	$(CC) -std=c11 -Wall -Wextra -Werror -pedantic -Iinclude ffi-c/example.c target/staticlib/libffi.a -o target/ffi/example
+	target/ffi/example | diff ffi-c/expected -
+	cargo test --offline --release --manifest-path ffi-rust/Cargo.toml --target-dir target/ffi/rust -- --nocapture
 
 # The real Rust, built from the sources in the folder that MITEX_SRC names, beside the port.
 oracle:

@@ -1,0 +1,2 @@
+-- What the contract of the exported run fixes.
+pub mod Only

@@ -1,0 +1,2 @@
+-- What comes back over C, as the rules have it.
+pub mod Exported

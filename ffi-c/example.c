@@ -1,0 +1,82 @@
+/* Document 01's whole case, `\frac 1 2`, through the C face: the listing that `treelist` prints for it, then each leaf's text, a formula's
+ * questions, and a refusal. */
+#include <inttypes.h>
+#include <stdio.h>
+#include <string.h>
+
+#include "cartglaze.h"
+
+#define COUNT(a) (sizeof(a) / sizeof((a)[0]))
+
+static const char text[] = "\\frac 1 2";
+static const uint32_t tokens[] = {26, 0, 5, 1, 1, 5, 1, 0, 21, 6, 1, 0, 1, 7, 1, 0, 21, 8, 1, 0};
+static const uint32_t shapes[] = {1, 1, 2};
+static const uint32_t states[] = {0};  /* none: its length is given as 0 */
+
+static bool run(uint32_t *tree, size_t room, uint32_t *dropped, size_t *first, size_t *second)
+{
+    return cartglaze_run((const uint8_t *)text, strlen(text), tokens, COUNT(tokens), shapes, COUNT(shapes), states, 0,
+                         tree, room, dropped, 15, first, second);
+}
+
+static void list(const uint32_t *tree, size_t rows, const uint32_t *dropped, size_t dropped_rows)
+{
+    size_t depth = 0;
+    printf("ok %zu %zu\n", rows, dropped_rows);
+    for (size_t row = 0; row < rows; row++) {
+        const uint32_t *cell = tree + row * 4;
+        if (cell[0] == 0) {
+            printf("%zu %" PRIu32 "\n", depth, cell[1]);
+            depth++;
+        } else if (cell[0] == 1) {
+            printf("%zu %" PRIu32 " %" PRIu32 " %" PRIu32 "\n", depth, cell[1], cell[2], cell[3]);
+        } else {
+            depth--;
+        }
+    }
+    for (size_t row = 0; row < dropped_rows; row++) {
+        const uint32_t *cell = dropped + row * 3;
+        printf("d %" PRIu32 " %" PRIu32 " %" PRIu32 "\n", cell[0], cell[1], cell[2]);
+    }
+}
+
+static void leaves(const uint32_t *tree, size_t rows)
+{
+    const uint8_t *bytes = (const uint8_t *)text;
+    for (size_t row = 0; row < rows; row++) {
+        if (cartglaze_is_leaf(bytes, strlen(text), tree, rows * 4, row)) {
+            size_t start = cartglaze_leaf_start(bytes, strlen(text), tree, rows * 4, row);
+            size_t length = cartglaze_leaf_length(bytes, strlen(text), tree, rows * 4, row);
+            printf("leaf %zu %.*s\n", row, (int)length, text + start);
+        }
+    }
+}
+
+/* `$$a$$`: a start of kind 43, its three leaves, its finish. */
+static void formula(void)
+{
+    const uint8_t bytes[] = "$$a$$";
+    const uint32_t tree[] = {0, 43, 0, 0, 1, 14, 0, 2, 1, 13, 2, 1, 1, 14, 3, 2, 2, 43, 0, 0};
+    printf("formula %d %d %d\n", cartglaze_is_display(bytes, 5, tree, COUNT(tree), 0),
+           cartglaze_is_inline(bytes, 5, tree, COUNT(tree), 0), cartglaze_is_valid(bytes, 5, tree, COUNT(tree), 0));
+}
+
+int main(void)
+{
+    uint32_t tree[44], dropped[15];
+    size_t first, second;
+
+    if (!run(tree, COUNT(tree), dropped, &first, &second)) {
+        printf("refused %zu %zu\n", first, second);
+        return 1;
+    }
+    list(tree, first, dropped, second);
+    leaves(tree, first);
+    formula();
+
+    /* A number too few for the last row: refused 8, and zeros behind it. */
+    if (!run(tree, COUNT(tree) - 1, dropped, &first, &second)) {
+        printf("refused %zu %zu %" PRIu32 " %" PRIu32 "\n", first, second, tree[1], dropped[1]);
+    }
+    return 0;
+}

@@ -1,0 +1,125 @@
+//! A safe face over Cartglaze's static library. `include/cartglaze.h` says what each function promises; nothing is asked of a caller here that
+//! Rust's types don't ask.
+#![deny(missing_docs)]
+
+/// The exported functions, as `include/cartglaze.h` has them: a slice is a pointer and a length.
+mod raw {
+    extern "C" {
+        pub fn cartglaze_run(
+            text: *const u8,
+            text_length: usize,
+            tokens: *const u32,
+            tokens_length: usize,
+            shapes: *const u32,
+            shapes_length: usize,
+            states: *const u32,
+            states_length: usize,
+            tree: *mut u32,
+            tree_length: usize,
+            dropped: *mut u32,
+            dropped_length: usize,
+            first: *mut usize,
+            second: *mut usize,
+        ) -> bool;
+        pub fn cartglaze_is_display(text: *const u8, text_length: usize, tree: *const u32, tree_length: usize, row: usize) -> bool;
+        pub fn cartglaze_is_inline(text: *const u8, text_length: usize, tree: *const u32, tree_length: usize, row: usize) -> bool;
+        pub fn cartglaze_is_valid(text: *const u8, text_length: usize, tree: *const u32, tree_length: usize, row: usize) -> bool;
+        pub fn cartglaze_is_leaf(text: *const u8, text_length: usize, tree: *const u32, tree_length: usize, row: usize) -> bool;
+        pub fn cartglaze_leaf_start(text: *const u8, text_length: usize, tree: *const u32, tree_length: usize, row: usize) -> usize;
+        pub fn cartglaze_leaf_length(text: *const u8, text_length: usize, tree: *const u32, tree_length: usize, row: usize) -> usize;
+    }
+}
+
+/// The tables that come in, each flat: token rows of 4 numbers, shape rows and state rows of 3.
+#[derive(Clone, Copy, Debug)]
+pub struct Tables<'a> {
+    /// The text's bytes.
+    pub text: &'a [u8],
+    /// Kind, start, length, shape.
+    pub tokens: &'a [u32],
+    /// Class, form, value.
+    pub shapes: &'a [u32],
+    /// The next state for t, b, p.
+    pub states: &'a [u32],
+}
+
+/// What a run comes to.
+#[derive(Clone, Copy, Debug, PartialEq, Eq)]
+pub enum Answer {
+    /// So many tree rows and dropped rows stand at the beginning of their buffers; later elements are as they were.
+    Accepted {
+        /// The count of tree rows.
+        rows: usize,
+        /// The count of dropped rows.
+        dropped: usize,
+    },
+    /// 1 to 4 leave the buffers as they were; 5 to 8 leave zeros.
+    Refused {
+        /// The number of refusal.
+        number: usize,
+        /// Its place, counted from 0.
+        place: usize,
+    },
+}
+
+/// The whole run.
+pub fn run(tables: Tables, tree: &mut [u32], dropped: &mut [u32]) -> Answer {
+    let Tables { text, tokens, shapes, states } = tables;
+    let (mut first, mut second) = (0, 0);
+    // SAFETY: each pointer with its length is a slice that lives through the call, and what is written to is borrowed `mut`.
+    let accepted = unsafe {
+        raw::cartglaze_run(
+            text.as_ptr(),
+            text.len(),
+            tokens.as_ptr(),
+            tokens.len(),
+            shapes.as_ptr(),
+            shapes.len(),
+            states.as_ptr(),
+            states.len(),
+            tree.as_mut_ptr(),
+            tree.len(),
+            dropped.as_mut_ptr(),
+            dropped.len(),
+            &mut first,
+            &mut second,
+        )
+    };
+    if accepted {
+        Answer::Accepted { rows: first, dropped: second }
+    } else {
+        Answer::Refused { number: first, place: second }
+    }
+}
+
+/// A question about a row of tree rows.
+macro_rules! question {
+    ($(#[$doc:meta])* $visible:vis $name:ident, $raw:ident, $answer:ty) => {
+        $(#[$doc])*
+        $visible fn $name(text: &[u8], tree: &[u32], row: usize) -> $answer {
+            // SAFETY: each pointer with its length is a slice that lives through the call.
+            unsafe { raw::$raw(text.as_ptr(), text.len(), tree.as_ptr(), tree.len(), row) }
+        }
+    };
+}
+
+question!(
+    /// Whether the row is a formula whose first token is `$$` or `\[`.
+    pub is_display, cartglaze_is_display, bool);
+question!(
+    /// Whether the row is a formula whose first token is `$` or `\(`.
+    pub is_inline, cartglaze_is_inline, bool);
+question!(
+    /// Whether the row is a formula whose first and last token match.
+    pub is_valid, cartglaze_is_valid, bool);
+question!(
+    /// Whether the row is a leaf inside the text.
+    pub is_leaf, cartglaze_is_leaf, bool);
+question!(leaf_start, cartglaze_leaf_start, usize);
+question!(leaf_length, cartglaze_leaf_length, usize);
+
+/// The text of a leaf row, that part of the caller's; for a leaf outside it, another row or no row the empty part at its start.
+pub fn leaf_text<'a>(text: &'a [u8], tree: &[u32], row: usize) -> &'a [u8] {
+    let start = leaf_start(text, tree, row);
+    &text[start..start + leaf_length(text, tree, row)]
+}
