@@ -1,13 +1,13 @@
 -- The contracts fix what they speak of: two results that meet one are equal. A contract that equates the result with a rule's leaves one value; where the
 -- result stands for the rule's, no two stand for the same. Assumes nothing.
-use mathlib.Core.Path.{_≡_, refl, sym, ap, _∙_}
+use mathlib.Core.Path.{_≡_, sym, ap, _∙_}
 use mathlib.Core.Bool.{Bool}
 use mathlib.Core.List.{List}
 use Prim.Native.Nat.{ℕ}
 use native.Mathlib.Omega.{arith}
 use denote.Ref.{RefT, now}
 use Rattle.rules.specs.Checks.{Tables}
-use Rattle.rules.specs.Questions.{Range, leafRange, isDisplay, isInline, isValid, isLeaf}
+use Rattle.rules.specs.Questions.{leafRange, isDisplay, isInline, isValid, isLeaf}
 use Rattle.rules.specs.Run as rules
 use Rattle.rules.specs.Run.{run}
 use Rattle.questions.specs.Contract.{LeafText}
