@@ -20,4 +20,8 @@ pub mod Run
 pub mod Tree
 pub mod Questions
 pub mod Rowan
+pub mod Sheet
+pub mod Listing
+pub mod Treelist
+pub mod SheetCases
 pub mod Cases

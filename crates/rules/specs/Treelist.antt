@@ -1,0 +1,29 @@
+-- What the program `treelist` prints for a sheet.
+use Prim.Native.Nat.{ℕ, _+_, _*_, _/_}
+use mathlib.Core.List.{List, []}
+use mathlib.Core.Option.{Option, none, some}
+use lib.ListN.{replicate}
+use Rattle.rules.specs.Checks.{Tables}
+use Rattle.rules.specs.Limits
+use Rattle.rules.specs.Listing.{listing}
+use Rattle.rules.specs.Run.{Ran, refusedAt, run}
+use Rattle.rules.specs.Sheet.{read, unreadable}
+
+-- "It has 4,096 tree rows."
+abbrev pub treeRows : ℕ
+treeRows = 4096
+
+-- a sheet of 32,768 bytes has at most 2,046 tokens
+abbrev pub droppedRows : ℕ
+droppedRows = 2048
+
+abbrev pub printedRan : Ran → List ℕ
+printedRan ran = listing (ran .answer) (ran .tree) (ran .dropped)
+
+-- "A sheet that is longer, .. prints `refused 9 0`; other refusals `refused N P`."
+abbrev pub printedOf : ℕ → ℕ → Option Tables → List ℕ
+printedOf tree dropped none = listing (refusedAt unreadable 0) [] []
+printedOf tree dropped (some tables) = printedRan (run tables (replicate tree 0) (replicate dropped 0))
+
+unfoldable pub printed : List ℕ → List ℕ
+printed sheet = printedOf (treeRows * Limits.treeWidth) (droppedRows * Limits.droppedWidth) (read sheet)
