@@ -1,0 +1,53 @@
+-- The laws by which callers use the definition of a sheet: how many numbers are read, and that the sections of a sheet that is read lie inside it, since
+-- each ends where the next begins and the last where the sheet does. Assumes nothing.
+use Prim.Native.Nat.{ℕ, zero, suc, _+_, _*_, _/_, _≤_}
+use mathlib.Core.Bool.{true, and-eq-true-iff}
+use mathlib.Core.List.{List, [], _∷_, _++_}
+use mathlib.Core.Path.{_≡_, refl, ap, _∙_}
+use native.Mathlib.Nat.{add-zero}
+use native.Mathlib.Omega.{arith}
+use borrow.Author.Tests.{leb-true, eqb-true}
+use lib.ListN.{length, getD, drop, length-drop}
+use lib.Seq.{length-take-le}
+use Rattle.rules.specs.Sheet.{mostBytes, version, numberBytes, numberAt, numbersAt, bytesFrom, endOf, textAt, tokensAt, shapesAt, statesAt, wholeNumbers, readable, tablesOf}
+
+module _ (sheet : List ℕ) where
+  pub numbers-long : (at count : ℕ) → length (numbersAt sheet at count) ≡ count
+  unfolding numbersAt
+  numbers-long at zero = refl
+  numbers-long at (suc count) = ap suc (numbers-long (at + numberBytes) count)
+
+  pub numbers-more : (at count : ℕ) → numbersAt sheet at (suc count) ≡ numbersAt sheet at count ++ (numberAt sheet (at + count * numberBytes) ∷ [])
+  unfolding numbersAt
+  numbers-more at zero = rw (add-zero at)
+  numbers-more at (suc count) =
+      let on : at + numberBytes + count * numberBytes ≡ at + suc count * numberBytes = omega arith in
+      ap (λ (l : List ℕ). numberAt sheet at ∷ l) (numbers-more (at + numberBytes) count ∙ ap (λ (k : ℕ). numbersAt sheet (at + numberBytes) count ++ (numberAt sheet k ∷ [])) on)
+
+  -- what is known of a sheet that is read
+  pub record Whole : Type 0 where
+    pub short : length sheet ≤ mostBytes
+    pub first : getD sheet 0 0 ≡ version
+    pub end : endOf sheet (statesAt sheet) ≡ length sheet
+
+  pub whole : readable sheet ≡ true → Whole
+  unfolding readable
+  whole e =
+      let h = and-eq-true-iff _ _ .0 e in
+      let k = and-eq-true-iff _ _ .0 (h .1) in
+      let l = and-eq-true-iff _ _ .0 (k .1) in
+      record { short = leb-true _ _ (h .0); first = eqb-true _ _ (k .0); end = eqb-true _ _ (l .0) }
+
+  -- a section ends behind its length
+  pub ends-behind : (at : ℕ) → bytesFrom at + numberAt sheet at ≡ endOf sheet at
+  unfolding endOf
+  ends-behind at = refl
+
+  pub text-inside : Whole → bytesFrom textAt + numberAt sheet textAt ≤ length sheet
+  text-inside w =
+      omega (arith, w .end, ends-behind textAt, ends-behind (tokensAt sheet), ends-behind (shapesAt sheet), ends-behind (statesAt sheet))
+
+  pub text-long : Whole → length (tablesOf sheet .text) ≡ numberAt sheet textAt
+  text-long w =
+      let fits = text-inside w in
+      length-take-le (numberAt sheet textAt) (drop (bytesFrom textAt) sheet) (omega (arith, length-drop (bytesFrom textAt) sheet))
