@@ -9,7 +9,9 @@ use native.Mathlib.Omega.{arith}
 use borrow.Author.Tests.{leb-true, eqb-true}
 use lib.ListN.{length, getD, drop, length-drop}
 use lib.Seq.{length-take-le}
-use Rattle.rules.specs.Sheet.{mostBytes, version, numberBytes, numberAt, numbersAt, bytesFrom, endOf, textAt, tokensAt, shapesAt, statesAt, wholeNumbers, readable, tablesOf}
+use Rattle.rules.specs.Sheet.{mostBytes, version, numberBytes, numberAt, numbersAt, bytesFrom, endOf, textAt, tokensAt, shapesAt, statesAt, readable, tableAt, tablesOf}
+use Rattle.rules.specs.Tables.{tokenCount}
+use Rattle.rules.specs.Treelist.{mostNumbers, droppedRows}
 
 module _ (sheet : List ℕ) where
   pub numbers-long : (at count : ℕ) → length (numbersAt sheet at count) ≡ count
@@ -23,6 +25,9 @@ module _ (sheet : List ℕ) where
   numbers-more at (suc count) =
       let on : at + numberBytes + count * numberBytes ≡ at + suc count * numberBytes = omega arith in
       ap (λ (l : List ℕ). numberAt sheet at ∷ l) (numbers-more (at + numberBytes) count ∙ ap (λ (k : ℕ). numbersAt sheet (at + numberBytes) count ++ (numberAt sheet k ∷ [])) on)
+
+  pub table-long : (at : ℕ) → length (tableAt sheet at) ≡ numberAt sheet at / numberBytes
+  table-long at = numbers-long (bytesFrom at) (numberAt sheet at / numberBytes)
 
   -- what is known of a sheet that is read
   pub record Whole : Type 0 where
@@ -51,3 +56,13 @@ module _ (sheet : List ℕ) where
   text-long w =
       let fits = text-inside w in
       length-take-le (numberAt sheet textAt) (drop (bytesFrom textAt) sheet) (omega (arith, length-drop (bytesFrom textAt) sheet))
+
+  -- a table's numbers take four times as many bytes, which lie inside the sheet: so all tables together have room in a fourth of a sheet's bytes
+  pub numbers-few : Whole → length (tablesOf sheet .tokens) + (length (tablesOf sheet .shapes) + length (tablesOf sheet .states)) ≤ mostNumbers
+  numbers-few w =
+      omega
+      (arith, w .short, w .end, ends-behind textAt, ends-behind (tokensAt sheet), ends-behind (shapesAt sheet), ends-behind (statesAt sheet), table-long (tokensAt sheet), table-long (shapesAt sheet), table-long (statesAt sheet))
+
+  -- so refusal 2 never comes of one
+  pub tokens-few : Whole → tokenCount (tablesOf sheet .tokens) ≤ droppedRows
+  tokens-few w = omega (arith, numbers-few w)

@@ -1,5 +1,5 @@
 -- What the program `treelist` prints for a sheet.
-use Prim.Native.Nat.{ℕ, _+_, _*_, _/_}
+use Prim.Native.Nat.{ℕ, _*_, _/_}
 use mathlib.Core.List.{List, []}
 use mathlib.Core.Option.{Option, none, some}
 use lib.ListN.{replicate}
@@ -7,15 +7,18 @@ use Rattle.rules.specs.Checks.{Tables}
 use Rattle.rules.specs.Limits
 use Rattle.rules.specs.Listing.{listing}
 use Rattle.rules.specs.Run.{Ran, refusedAt, run}
-use Rattle.rules.specs.Sheet.{read, unreadable}
+use Rattle.rules.specs.Sheet.{mostBytes, numberBytes, read, unreadable}
 
 -- "It has 4,096 tree rows."
 abbrev pub treeRows : ℕ
 treeRows = 4096
 
--- a sheet of 32,768 bytes has at most 2,046 tokens
+-- room for the numbers of every sheet that is read, and for a dropped row for each of its tokens
+abbrev pub mostNumbers : ℕ
+mostNumbers = mostBytes / numberBytes
+
 abbrev pub droppedRows : ℕ
-droppedRows = 2048
+droppedRows = mostNumbers / Limits.tokenWidth
 
 abbrev pub printedRan : Ran → List ℕ
 printedRan ran = listing (ran .answer) (ran .tree) (ran .dropped)

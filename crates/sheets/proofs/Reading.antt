@@ -8,7 +8,7 @@ use borrow.Author.Tests.{le-leb, lt-leb}
 use borrow.Rule.Slice.PartMut.{midOf, putMid, mid-len}
 use lib.ListN.{length, drop, length-append, length-drop}
 use Rattle.rules.specs.Sheet.{numberBytes, numberAt, numbersAt, textAt, tokensAt, shapesAt, statesAt, tableAt, tablesOf, readable, read}
-use Rattle.rules.proofs.Sheet.{numbers-long, whole, text-long}
+use Rattle.rules.proofs.Sheet.{table-long, whole, text-long}
 use Rattle.sheets.specs.Contract.{Placed, Counted, Reads, numbersOf, sectionsOf}
 use Rattle.sheets.specs.declared.sections.Places.{Places}
 use Rattle.sheets.specs.declared.sections.Sections.{Sections}
@@ -43,7 +43,7 @@ module _ (sheet numbers : List ℕ) where
 
   module _ {s : Sections} (ok : readable sheet ≡ true) (k : Counted sheet s) where
     long : (at n : ℕ) → n ≡ numberAt sheet at / numberBytes → length (tableAt sheet at) ≡ n
-    long at n e = numbers-long sheet (at + numberBytes) (numberAt sheet at / numberBytes) ∙ sym e
+    long at n e = table-long sheet at ∙ sym e
 
     counted : sectionsOf (tablesOf sheet) ≡ s
     counted =

@@ -1,7 +1,9 @@
 // The four sections of a sheet: where the length of each stands, and what is asked of them.
 ghost use mathlib.Core.Path.{_≡_};
-ghost use Prim.Native.Nat.{_+_, _≤_, _<_, _^_};
-ghost use Rattle.rules.specs.Sheet.{endOf, wholeNumbers, readable};
+ghost use Prim.Native.Nat.{_+_, _<_, _^_};
+ghost use mathlib.Core.List.{[], _∷_};
+ghost use Rattle.rules.specs.Sheet.{mostBytes, version, textAt, bytesFrom, endOf, wholeNumbers, readable};
+ghost use Rattle.rules.specs.Treelist.{mostNumbers};
 ghost use Rattle.sheets.specs.Contract.{Placed, Counted};
 use crate::number::Bytes;
 use crate::number::byte;
@@ -26,6 +28,19 @@ impl Sections {
     pub const TEXT_BYTES: usize = 5;
     // The numbers of every sheet that is read have room in so many.
     pub const MOST_NUMBERS: usize = 8_192;
+
+    // All of them, in order. The contract holds each to the rules' number.
+    pub fn numbers() -> [usize; 5]
+        ensures { λ r. ⌜ r ≡ (mostBytes ∷ version ∷ textAt ∷ bytesFrom textAt ∷ mostNumbers ∷ []) ⌝ }
+    {
+        [
+            Self::MOST_BYTES,
+            Self::VERSION,
+            Self::TEXT,
+            Self::TEXT_BYTES,
+            Self::MOST_NUMBERS,
+        ]
+    }
 }
 
 // Where the length of each table stands, and where the last section ends.
