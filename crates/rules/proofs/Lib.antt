@@ -11,6 +11,7 @@ pub mod Related
 pub mod Render
 pub mod Room
 pub mod Sheet
+pub mod SheetBytes
 pub mod Sim
 pub mod Simulation
 pub mod Table

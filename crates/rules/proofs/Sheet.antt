@@ -1,6 +1,6 @@
 -- The laws by which callers use the definition of a sheet: how many numbers are read, and that the sections of a sheet that is read lie inside it, since
 -- each ends where the next begins and the last where the sheet does. Assumes nothing.
-use Prim.Native.Nat.{ℕ, zero, suc, _+_, _*_, _/_, _≤_}
+use Prim.Native.Nat.{ℕ, zero, suc, _+_, _*_, _/_, _%_, _≤_}
 use mathlib.Core.Bool.{true, and-eq-true-iff}
 use mathlib.Core.List.{List, [], _∷_, _++_}
 use mathlib.Core.Path.{_≡_, refl, ap, _∙_}
@@ -34,6 +34,9 @@ module _ (sheet : List ℕ) where
     pub short : length sheet ≤ mostBytes
     pub first : getD sheet 0 0 ≡ version
     pub end : endOf sheet (statesAt sheet) ≡ length sheet
+    pub tokens : numberAt sheet (tokensAt sheet) % numberBytes ≡ 0
+    pub shapes : numberAt sheet (shapesAt sheet) % numberBytes ≡ 0
+    pub states : numberAt sheet (statesAt sheet) % numberBytes ≡ 0
 
   pub whole : readable sheet ≡ true → Whole
   unfolding readable
@@ -41,7 +44,16 @@ module _ (sheet : List ℕ) where
       let h = and-eq-true-iff _ _ .0 e in
       let k = and-eq-true-iff _ _ .0 (h .1) in
       let l = and-eq-true-iff _ _ .0 (k .1) in
-      record { short = leb-true _ _ (h .0); first = eqb-true _ _ (k .0); end = eqb-true _ _ (l .0) }
+      let m = and-eq-true-iff _ _ .0 (l .1) in
+      let n = and-eq-true-iff _ _ .0 (m .1) in
+      record {
+        short = leb-true _ _ (h .0);
+        first = eqb-true _ _ (k .0);
+        end = eqb-true _ _ (l .0);
+        tokens = eqb-true _ _ (m .0);
+        shapes = eqb-true _ _ (n .0);
+        states = eqb-true _ _ (n .1);
+      }
 
   -- a section ends behind its length
   pub ends-behind : (at : ℕ) → bytesFrom at + numberAt sheet at ≡ endOf sheet at

@@ -1,7 +1,7 @@
 -- What the bytes of a sheet stand for, as the program `treelist` reads it.
 use Prim.Native.Nat.{ℕ, zero, suc, _+_, _*_, _/_, _%_}
 use mathlib.Core.Bool.{Bool, cond, _&&_}
-use mathlib.Core.List.{List, [], _∷_}
+use mathlib.Core.List.{List, [], _∷_, _++_}
 use mathlib.Core.Option.{Option, none, some}
 use lib.Dec.{eqb, leb}
 use lib.ListN.{length, getD}
@@ -80,3 +80,23 @@ read sheet = cond (readable sheet) (some (tablesOf sheet)) none
 -- "prints `refused 9 0`": the number of that refusal
 abbrev pub unreadable : ℕ
 unreadable = 9
+
+-- ---- the other way round: the bytes of tables. A sheet of at most 32,768 bytes is read exactly when it is the bytes of some tables, and it is those that
+-- are read (`read-back`, `only-bytes`)
+abbrev pub bytesOfNumber : ℕ → List ℕ
+bytesOfNumber n = n / 256 / 256 / 256 % 256 ∷ n / 256 / 256 % 256 ∷ n / 256 % 256 ∷ n % 256 ∷ []
+
+unfoldable pub bytesOfNumbers : List ℕ → List ℕ
+bytesOfNumbers [] = []
+bytesOfNumbers (n ∷ numbers) = bytesOfNumber n ++ bytesOfNumbers numbers
+
+-- "each a 4-byte length and its bytes"
+abbrev pub section : List ℕ → List ℕ
+section bytes = bytesOfNumber (length bytes) ++ bytes
+
+-- "version byte 1, then text, tokens, shapes, states"
+unfoldable pub bytesOf : Tables → List ℕ
+bytesOf t =
+    version
+    ∷ (section (t .text)
+    ++ (section (bytesOfNumbers (t .tokens)) ++ (section (bytesOfNumbers (t .shapes)) ++ section (bytesOfNumbers (t .states)))))

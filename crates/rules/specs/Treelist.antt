@@ -1,6 +1,6 @@
 -- What the program `treelist` prints for a sheet.
 use Prim.Native.Nat.{ℕ, _*_, _/_}
-use mathlib.Core.List.{List, []}
+use mathlib.Core.List.{List}
 use mathlib.Core.Option.{Option, none, some}
 use lib.ListN.{replicate}
 use Rattle.rules.specs.Checks.{Tables}
@@ -23,10 +23,10 @@ droppedRows = mostNumbers / Limits.tokenWidth
 abbrev pub printedRan : Ran → List ℕ
 printedRan ran = listing (ran .answer) (ran .tree) (ran .dropped)
 
--- "A sheet that is longer, .. prints `refused 9 0`; other refusals `refused N P`."
-abbrev pub printedOf : ℕ → ℕ → Option Tables → List ℕ
-printedOf tree dropped none = listing (refusedAt unreadable 0) [] []
-printedOf tree dropped (some tables) = printedRan (run tables (replicate tree 0) (replicate dropped 0))
+-- "A sheet that is longer, .. prints `refused 9 0`; other refusals `refused N P`.": with these two buffers
+abbrev pub printedOf : List ℕ → List ℕ → Option Tables → List ℕ
+printedOf tree dropped none = listing (refusedAt unreadable 0) tree dropped
+printedOf tree dropped (some tables) = printedRan (run tables tree dropped)
 
 unfoldable pub printed : List ℕ → List ℕ
-printed sheet = printedOf (treeRows * Limits.treeWidth) (droppedRows * Limits.droppedWidth) (read sheet)
+printed sheet = printedOf (replicate (treeRows * Limits.treeWidth) 0) (replicate (droppedRows * Limits.droppedWidth) 0) (read sheet)

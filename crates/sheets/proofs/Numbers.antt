@@ -1,10 +1,10 @@
 -- Laws of numbers that are read into a lent buffer: one number more, and one part more. Assumes nothing.
 use Prim.Native.Nat.{ℕ, suc, _+_, _*_, _-_, _≤_, _<_}
 use mathlib.Core.List.{List, [], _∷_, _++_, append-assoc}
-use mathlib.Core.Path.{_≡_, refl, ap, _∙_}
+use mathlib.Core.Path.{_≡_, refl}
 use native.Mathlib.Numerals.{add-one}
 use native.Mathlib.Omega.{arith}
-use lib.ListN.{length, take, drop, set}
+use lib.ListN.{length, drop, set}
 use lib.Seq.{drop-cons, drop-drop, take-at, drop-at, set-at}
 use borrow.Rule.Slice.PartMut.{putMid}
 use Rattle.rules.specs.Sheet.{numberBytes, numberAt, numbersAt}

@@ -7,7 +7,7 @@ use native.Mathlib.Omega.{arith}
 use borrow.Author.Tests.{le-leb, lt-leb}
 use borrow.Rule.Slice.PartMut.{midOf, putMid, mid-len}
 use lib.ListN.{length, drop, length-append, length-drop}
-use Rattle.rules.specs.Sheet.{numberBytes, numberAt, numbersAt, textAt, tokensAt, shapesAt, statesAt, tableAt, tablesOf, readable, read}
+use Rattle.rules.specs.Sheet.{numberBytes, numberAt, numbersAt, tokensAt, shapesAt, statesAt, tableAt, tablesOf, readable, read}
 use Rattle.rules.proofs.Sheet.{table-long, whole, text-long}
 use Rattle.sheets.specs.Contract.{Placed, Counted, Reads, numbersOf, sectionsOf}
 use Rattle.sheets.specs.declared.sections.Places.{Places}

@@ -1,6 +1,6 @@
 -- `depth_after` meets its contract: its tests are the rule's. Assumes nothing.
 use borrow.Author.Needs.{needs}
-use borrow.Author.Tests.{eq-eqb, ne-eqb}
+use borrow.Author.Tests.{ne-eqb}
 use Rattle.rules.specs.Questions.{openAfter}
 use Rattle.sheets.proofs.lines.depth_after.Statement.{statement}
 use Rattle.sheets.proofs.lines.depth_after.Tie as tie

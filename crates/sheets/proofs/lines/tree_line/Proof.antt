@@ -1,6 +1,6 @@
 -- `tree_line` meets its contract: its tests are the rule's, and the numbers that it hands on are the row's. Assumes nothing.
 use mathlib.Core.Path.{_≡_, sym, _∙_}
-use Prim.Native.Nat.{ℕ, _+_, _*_, _-_}
+use Prim.Native.Nat.{_+_, _*_, _-_}
 use borrow.Author.Needs.{needs}
 use native.Mathlib.Omega.{arith}
 use Rattle.rules.proofs.Listing.{start-line, leaf-line, no-line, tag-first}

@@ -1,7 +1,7 @@
 -- `numbers` meets its contract. The loop's invariant: the first i numbers of the part are the sheet's, the others are as they were. Assumes nothing.
 use mathlib.Core.List.{_++_, append-nil}
-use mathlib.Core.Path.{_≡_, refl, ap, _∙_}
-use Prim.Native.Nat.{ℕ, _-_, _≤_}
+use mathlib.Core.Path.{_≡_, refl, _∙_}
+use Prim.Native.Nat.{_-_, _≤_}
 use borrow.Author.Needs.{needs}
 use native.Mathlib.Omega.{arith}
 use lib.ListN.{length, drop, length-set}

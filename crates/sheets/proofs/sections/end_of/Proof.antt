@@ -1,5 +1,4 @@
 -- `end_of` meets its contract: its sum is the rule's. Assumes nothing.
-use mathlib.Core.Path.{_≡_}
 use borrow.Author.Needs.{needs}
 use native.Mathlib.Omega.{arith}
 use Rattle.rules.specs.Sheet.{endOf}

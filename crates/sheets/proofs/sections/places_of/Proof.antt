@@ -1,9 +1,7 @@
 -- `places_of` meets its contract: each place is the end of the section before, and four sections of 32 bits stay below 40. Assumes nothing.
 use mathlib.Core.Path.{_≡_, ap, _∙_}
-use Prim.Native.Nat.{ℕ}
 use borrow.Author.Needs.{needs}
-use native.Mathlib.Omega.{arith}
-use Rattle.rules.specs.Sheet.{endOf, tokensAt, shapesAt, statesAt}
+use Rattle.rules.specs.Sheet.{endOf, shapesAt, statesAt}
 use Rattle.sheets.proofs.sections.places_of.Statement.{statement}
 use Rattle.sheets.proofs.sections.places_of.Tie as tie
 

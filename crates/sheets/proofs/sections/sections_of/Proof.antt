@@ -1,8 +1,5 @@
 -- `sections_of` meets its contract: the numbers stand at the sheet's places. Assumes nothing.
 use borrow.Author.Needs.{needs}
-use mathlib.Core.Path.{_≡_, ap, _∙_}
-use native.Mathlib.Omega.{arith}
-use Rattle.rules.specs.Sheet.{numberAt}
 use Rattle.sheets.proofs.sections.sections_of.Statement.{statement}
 use Rattle.sheets.proofs.sections.sections_of.Tie as tie
 

@@ -1,5 +1,5 @@
 -- The proof of the cycle of calls {number}. The measure is the number: what stands before its last digit is less. Assumes nothing.
-use Prim.Native.Nat.{ℕ, _<_, _≤_, _/_}
+use Prim.Native.Nat.{ℕ, _<_}
 use borrow.Author.Needs.{needs}
 use borrow.Fn.Kinds.{In}
 use borrow.Fn.PlainCycle.{Measures, is, falls, and}
