@@ -20,6 +20,10 @@ mostNumbers = mostBytes / numberBytes
 abbrev pub droppedRows : ℕ
 droppedRows = mostNumbers / Limits.tokenWidth
 
+-- and for the lines of every answer on these
+abbrev pub mostPrinted : ℕ
+mostPrinted = 262144
+
 abbrev pub printedRan : Ran → List ℕ
 printedRan ran = listing (ran .answer) (ran .tree) (ran .dropped)
 
