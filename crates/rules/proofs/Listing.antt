@@ -1,6 +1,6 @@
 -- The laws by which callers use the definition of a listing: a number's digits, the next row of a walk over rows, and a row's numbers as a part of its
 -- table. Assumes nothing.
-use Prim.Native.Nat.{ℕ, zero, suc, _+_, _*_, _-_, _/_, _%_, _^_, _≤_, _<_, min}
+use Prim.Native.Nat.{ℕ, zero, suc, _+_, _*_, _-_, _/_, _%_, _^_, _≤_, _<_}
 use mathlib.Core.List.{List, [], _∷_, _++_}
 use mathlib.Core.Path.{_≡_}
 use native.Mathlib.Nat.{add-zero}
@@ -175,13 +175,18 @@ abbrev pub InWords : Answer → Type 0
 InWords (accepted rows count) = (rows < 2 ^ 64) × (count < 2 ^ 64)
 InWords (refusedAt number place) = (number < 2 ^ 64) × (place < 2 ^ 64)
 
+accepted-few : (tree dropped : List ℕ) (rows count shown told : ℕ) → (rows < 2 ^ 64) × (count < 2 ^ 64) → Words tree → Words dropped
+    → length tree ≤ treeRows * Limits.treeWidth → length dropped ≤ droppedRows * Limits.droppedWidth → shown ≤ rowCount tree → told ≤ length dropped / Limits.droppedWidth
+    → length (line wordOk (rows ∷ count ∷ []) ++ (treeLines tree shown 0 0 ++ droppedLines dropped told 0)) ≤ mostPrinted
+accepted-few tree dropped rows count shown told low wt wd lt ld hs ht =
+    let first = line wordOk (rows ∷ count ∷ []) in
+    let second = treeLines tree shown 0 0 in
+    let third = droppedLines dropped told 0 in
+    omega
+    (arith, length-append first (second ++ third), length-append second third, head-long wordOk rows count (low .0) (low .1), tree-lines-few tree shown 0 0 wt (omega arith), dropped-lines-few dropped told 0 wd)
+
 pub listing-few : (answer : Answer) (tree dropped : List ℕ) → InWords answer → Words tree → Words dropped → length tree ≤ treeRows * Limits.treeWidth
     → length dropped ≤ droppedRows * Limits.droppedWidth → length (listing answer tree dropped) ≤ mostPrinted
 unfolding listing
-listing-few (accepted rows count) tree dropped low wt wd lt ld =
-    let first = line wordOk (rows ∷ count ∷ []) in
-    let second = treeLines tree (min rows (rowCount tree)) 0 0 in
-    let third = droppedLines dropped (min count (length dropped / Limits.droppedWidth)) 0 in
-    omega
-    (arith, length-append first (second ++ third), length-append second third, head-long wordOk rows count (low .0) (low .1), tree-lines-few tree (min rows (rowCount tree)) 0 0 wt (omega arith), dropped-lines-few dropped (min count (length dropped / Limits.droppedWidth)) 0 wd)
+listing-few (accepted rows count) tree dropped low wt wd lt ld = accepted-few tree dropped rows count _ _ low wt wd lt ld (omega arith) (omega arith)
 listing-few (refusedAt number place) tree dropped low wt wd lt ld = omega (arith, head-long wordRefused number place (low .0) (low .1))
