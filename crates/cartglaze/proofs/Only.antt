@@ -13,9 +13,10 @@ use Rattle.rules.specs.Run.{run}
 use Rattle.questions.specs.Contract.{LeafText}
 use Rattle.questions.specs.Stands.{rangeOf}
 use Rattle.questions.specs.declared.leaf.LeafRange.{LeafRange}
-use Rattle.cartglaze.specs.Answers.{answerOf, ranOf}
-use Rattle.cartglaze.specs.declared.whole.Answer.{Answer}
-use Rattle.cartglaze.specs.declared.whole.Answer.the-variants.{Accepted, Refused}
+use Rattle.sheets.specs.Stands.{answerOf}
+use Rattle.cartglaze.specs.Answers.{ranOf}
+use Rattle.sheets.specs.declared.answer.Answer.{Answer}
+use Rattle.sheets.specs.declared.answer.Answer.the-variants.{Accepted, Refused}
 
 -- ---- the run
 
