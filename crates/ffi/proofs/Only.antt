@@ -17,7 +17,7 @@ use Rattle.sheets.specs.Contract.{Lists, numbersOf}
 use Rattle.sheets.specs.declared.listing.Listed.{Listed}
 use Rattle.sheets.specs.declared.listing.Listed.the-variants.{Bytes, NoRoom}
 use Rattle.ffi.specs.Exported.{answerFrom, ranFrom, Hands, listedFrom, notRead}
-use Rattle.ffi.specs.declared.counts.Counts.{Counts}
+use Rattle.ffi.specs.declared.sheet.Counts.{Counts}
 
 -- ---- the run
 

@@ -12,7 +12,7 @@ use Rattle.sheets.specs.declared.listing.Listed.{Listed}
 use Rattle.sheets.specs.declared.listing.Listed.the-variants as listed
 use Rattle.sheets.specs.declared.sheet.Sheet.{Sheet}
 use Rattle.sheets.specs.declared.sheet.Sheet.the-variants as sheet
-use Rattle.ffi.specs.declared.counts.Counts.{Counts}
+use Rattle.ffi.specs.declared.sheet.Counts.{Counts}
 
 -- ---- the run
 

@@ -1,28 +1,27 @@
 // The public face for C and Rust: numbers and slices alone. A slice is a pointer and a length there; `include/cartglaze.h` has the same functions.
-mod answer;
-mod counts;
+mod listing;
+mod sheet;
 
 ghost use mathlib.Core.Path.{_≡_};
-ghost use Rattle.rules.specs.Listing.{listing};
 ghost use Rattle.rules.specs.Questions.{isDisplay, isInline, isValid, isLeaf, leafRange};
 ghost use Rattle.rules.specs.Run.{run as runOf};
-ghost use Rattle.rules.specs.Sheet.{read as readOf};
 ghost use Rattle.parser.specs.Member.{tables};
-ghost use Rattle.sheets.specs.Contract.{Lists};
-ghost use Rattle.ffi.specs.Exported.{ranFrom, Hands, answerIn, listedFrom};
-use crate::answer::answer_in;
-use crate::answer::wide;
-use crate::counts::counts_of;
+ghost use Rattle.ffi.specs.Exported.{ranFrom};
 use cartglaze::Answer;
-use cartglaze::Listed;
 use cartglaze::is_display;
 use cartglaze::is_inline;
 use cartglaze::is_leaf;
 use cartglaze::is_valid;
 use cartglaze::leaf_range;
-use cartglaze::list;
-use cartglaze::read;
 use cartglaze::run;
+pub use listing::cartglaze_list;
+pub use sheet::cartglaze_read;
+
+fn wide(number: u32) -> usize
+    ensures { λ r. ⌜ r ≡ number ⌝ }
+{
+    number as usize
+}
 
 // Whether the run is accepted. Accepted: the counts of tree rows and of dropped rows; refused: the number and the place.
 #[no_mangle]
@@ -101,53 +100,4 @@ pub extern "C" fn cartglaze_leaf_length(text: &[u8], tree: &[u32], row: usize) -
 {
     let range = leaf_range(text, tree, row);
     range.size
-}
-
-// Whether the sheet is read: the numbers of its tables stand in the lent ones, and its sections have so much. If it is not, nothing is written, and
-// `needed` tells a buffer that is too short from refusal 9.
-#[no_mangle]
-pub extern "C" fn cartglaze_read(
-    sheet: &[u8],
-    numbers: &mut [u32],
-    text: &mut usize,
-    tokens: &mut usize,
-    shapes: &mut usize,
-    states: &mut usize,
-    needed: &mut usize,
-) -> bool
-    ensures { λ r. ⌜ Hands (readOf (now (sheet .entry))) (now (numbers .entry)) (record { read = r; text = now (text .exit); tokens = now (tokens .exit); shapes = now (shapes .exit); states = now (states .exit); needed = now (needed .exit) }) (now (numbers .exit)) ⌝ }
-{
-    let counts = counts_of(read(sheet, numbers));
-    *text = counts.text;
-    *tokens = counts.tokens;
-    *shapes = counts.shapes;
-    *states = counts.states;
-    *needed = counts.needed;
-    counts.read
-}
-
-// Whether the lines of an answer have room, and how many bytes they have. If they have none, nothing is written.
-#[no_mangle]
-pub extern "C" fn cartglaze_list(
-    accepted: bool,
-    first: usize,
-    second: usize,
-    tree: &[u32],
-    dropped: &[u32],
-    out: &mut [u8],
-    length: &mut usize,
-) -> bool
-    ensures { λ r. ⌜ Lists (listing (answerIn accepted first second) (now (tree .entry)) (now (dropped .entry))) (now (out .entry)) (listedFrom r (now (length .exit))) (now (out .exit)) ⌝ }
-{
-    let listed = list(answer_in(accepted, first, second), tree, dropped, out);
-    match listed {
-        Listed::Bytes(count) => {
-            *length = count;
-            true
-        }
-        Listed::NoRoom(count) => {
-            *length = count;
-            false
-        }
-    }
 }

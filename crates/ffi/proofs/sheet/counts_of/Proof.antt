@@ -1,8 +1,8 @@
 -- `counts_of` meets its contract: each variant's numbers are those of the definition. Assumes nothing.
 use mathlib.Core.Path.{_∙_}
 use borrow.Author.Needs.{needs}
-use Rattle.ffi.proofs.counts.counts_of.Statement.{statement}
-use Rattle.ffi.proofs.counts.counts_of.Tie as tie
+use Rattle.ffi.proofs.sheet.counts_of.Statement.{statement}
+use Rattle.ffi.proofs.sheet.counts_of.Tie as tie
 
 returns : tie.Need-returns
 returns c = rw (c .before .sheet .given .1)

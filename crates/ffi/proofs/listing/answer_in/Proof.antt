@@ -1,7 +1,7 @@
 -- `answer_in` meets its contract: one answer for each way of its test. Assumes nothing.
 use borrow.Author.Needs.{needs}
-use Rattle.ffi.proofs.answer.answer_in.Statement.{statement}
-use Rattle.ffi.proofs.answer.answer_in.Tie as tie
+use Rattle.ffi.proofs.listing.answer_in.Statement.{statement}
+use Rattle.ffi.proofs.listing.answer_in.Tie as tie
 
 returns : tie.Need-returns
 returns c = rw (c .if1 .taken)

@@ -2,8 +2,8 @@
 use mathlib.Core.Path.{ap, _∙_}
 use borrow.Author.Needs.{needs}
 use Rattle.ffi.specs.Exported.{countsOf}
-use Rattle.ffi.proofs.cartglaze_read.Statement.{statement}
-use Rattle.ffi.proofs.cartglaze_read.Tie as tie
+use Rattle.ffi.proofs.sheet.cartglaze_read.Statement.{statement}
+use Rattle.ffi.proofs.sheet.cartglaze_read.Tie as tie
 
 returns : tie.Need-returns
 returns c = record { counts-are = c .counts-of .ensures ∙ ap countsOf (c .before .before .before .read .ensures .answer); written = c .before .before .before .read .ensures .written }

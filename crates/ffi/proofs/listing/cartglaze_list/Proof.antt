@@ -1,7 +1,7 @@
 -- `cartglaze_list` meets its contract: the answer that came in is listed, and what that comes to is handed out as a bool and a number. Assumes nothing.
 use borrow.Author.Needs.{needs}
-use Rattle.ffi.proofs.cartglaze_list.Statement.{statement}
-use Rattle.ffi.proofs.cartglaze_list.Tie as tie
+use Rattle.ffi.proofs.listing.cartglaze_list.Statement.{statement}
+use Rattle.ffi.proofs.listing.cartglaze_list.Tie as tie
 
 returns : tie.Need-returns
 returns c = rw (c .before .before .before .before .before .before .before .answer-in .ensures, c .before .listed .given .1) at (c .before .before .before .before .before .list .ensures)
