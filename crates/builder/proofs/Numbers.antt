@@ -1,12 +1,12 @@
 -- Laws on rows in a list of numbers, over the width of a row: a row is written, rows move down, a row is put in. Assumes nothing.
-use mathlib.Core.Path.{_≡_, refl, sym, ap, ap₂, _∙_}
+use mathlib.Core.Path.{_≡_, sym, ap, ap₂, _∙_}
 use mathlib.Core.List.{List, [], _∷_, _++_, append-assoc, append-nil}
 use Prim.Native.Nat.{ℕ, suc, _+_, _*_, _-_, _≤_, _<_}
 use native.Mathlib.Nat.{suc-mul}
 use native.Mathlib.Numerals.{add-one}
 use native.Mathlib.Omega.{arith}
-use lib.ListN.{length, take, drop, set, getD, length-append, length-take, length-drop, List·getD-append}
-use lib.Seq.{sets, sets-eq, take-at, drop-at, take-take, take-length, take-suc, take-add, drop-drop, drop-cons, set-at, getD-take, length-take-le, slice-empty}
+use lib.ListN.{length, take, drop, set, getD, length-append, length-drop, List·getD-append}
+use lib.Seq.{sets, sets-eq, take-at, drop-at, take-take, take-length, take-suc, take-add, drop-cons, set-at, getD-take, length-take-le, slice-empty}
 use borrow.Rule.Slice.PartMut.{midOf, putMid, mid-len, drop-put}
 
 -- ---- a row is written
@@ -72,10 +72,6 @@ shift-all l p by i hi lo e =
     let same : i ≡ by = omega arith in
     let none : by - by ≡ 0 = omega arith in
     rw none at (rw same at e)
-
-pub length-shifted : (l p : List ℕ) (by i : ℕ) → i ≤ length l → by ≤ i → p ≡ shifted l by i → length p ≡ length l
-length-shifted l p by i h lo e =
-    rw e (simp (length-append, length-take, length-drop) (omega arith))
 
 -- ---- a row in front of a part
 

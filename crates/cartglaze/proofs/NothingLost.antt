@@ -6,7 +6,8 @@ use Prim.Native.Nat.{ℕ}
 use Rattle.rules.specs.Checks.{Tables}
 use Rattle.rules.specs.PutBack.{treeRows, droppedRows, leaves, Stored, stored, putBack, tokenTexts, EachToken, Rises}
 use Rattle.rules.specs.Run.{Ran, accepted, run}
-use Rattle.rules.proofs.Exactly.{RanExactly, run-exactly}
+use Rattle.rules.specs.Exactly.{RanExactly}
+use Rattle.rules.proofs.Exactly.{run-exactly}
 use Rattle.rules.proofs.NothingLost as rules
 use Rattle.cartglaze.specs.Answers.{ranOf}
 use Rattle.sheets.specs.declared.answer.Answer.the-variants.{Accepted}

@@ -3,7 +3,7 @@
 use Prim.Native.Nat.{ℕ}
 use mathlib.Core.Path.{_≡_, refl, sym, ap, _∙_}
 use native.Mathlib.Omega.{arith}
-use lib.ListN.{length, drop, length-drop}
+use lib.ListN.{drop, length-drop}
 use lib.Seq.{length-take-le}
 use Rattle.rules.specs.Checks.{Refusal, Tables, checks}
 use Rattle.rules.specs.Tables.{lengthAt, startAt}

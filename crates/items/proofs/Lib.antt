@@ -1,0 +1,1 @@
+-- No law here serves several functions: those of arms stand in the crate below.

@@ -17,7 +17,7 @@ use Rattle.rules.specs.Token
 use Rattle.rules.specs.Characters.{charLength}
 use Rattle.rules.specs.Tables.{tokenCount, kindAt, startAt, lengthAt}
 use Rattle.rules.specs.Cursor.{Cursor, atStart, peek, restStart, restLength, peekText, eaten, consumed, left}
-use Rattle.rules.proofs.Characters.{either, char-fits, utf8-some, utf8-again}
+use Rattle.rules.proofs.Characters.{either, utf8-some, utf8-again}
 use Rattle.lexer.specs.Fine.{IsWord, Sound, Fine, Here}
 use Rattle.lexer.specs.Reading.{peekedOf}
 use Rattle.lexer.specs.declared.cursor.Peeked.{Peeked}
@@ -142,9 +142,6 @@ module _ {text tokens : List ℕ} {c : Cursor} (fine : Fine text tokens c) where
     module _ (word : kindAt tokens (c .token) ≡ Token.Word) where
       pub char-some : 1 ≤ charLength (peekText text tokens c)
       char-some = let w = fine .word there word in utf8-some (peekText text tokens c) (w .some) (w .utf8)
-
-      pub char-inside : charLength (peekText text tokens c) ≤ restLength tokens c
-      char-inside = omega (arith, char-fits (peekText text tokens c), rest-length)
 
       part-left : charLength (peekText text tokens c) < restLength tokens c
           → Fine text tokens (record { token = c .token; taken = c .taken + charLength (peekText text tokens c) })

@@ -115,11 +115,3 @@ pub fn is_utf8(bytes: &[u8]) -> bool
     }
     true
 }
-
-// What is left of a Word once so many bytes of it are taken: the part that starts in its middle.
-pub fn rest_of_word<'a>(word: &'a [u8], count: usize) -> &'a [u8]
-    requires { ⌜ count ≤ length (now word) ⌝ }
-    ensures { λ r. ⌜ now r ≡ drop count (now (word .entry)) ⌝ }
-{
-    &word[count..]
-}

@@ -1,9 +1,7 @@
 // The cursor over token rows: `peek`, `eat` and `consume_utf8_bytes` of the lexer's lib.rs, by value beside the lent text and rows.
-use crate::characters::char_len;
 use syntax::Limits;
 ghost use mathlib.Core.Path.{_≡_};
 ghost use Prim.Native.Nat.{_<_, _^_};
-ghost use Rattle.rules.specs.Characters.{charLength};
 ghost use Rattle.rules.specs.Cursor.{peek, peekText, restStart, restLength, atStart, eaten, consumed};
 ghost use Rattle.rules.specs.Limits.{tokenWidth};
 ghost use Rattle.rules.specs.Tables.{cell, tokenCount};
@@ -87,14 +85,6 @@ impl Lexer {
         let start = self.rest_start(tokens) as usize;
         let end = start + self.rest_length(tokens) as usize;
         &text[start..end]
-    }
-
-    // The length of its first character.
-    pub fn peek_char(self, text: &[u8], tokens: &[u32]) -> usize
-        requires { ⌜ (self .token < tokenCount (now tokens)) × Fine (now text) (now tokens) (cursorOf self) ⌝ }
-        ensures { λ r. ⌜ r ≡ charLength (peekText (now (text .entry)) (now (tokens .entry)) (cursorOf self)) ⌝ }
-    {
-        char_len(self.peek_text(text, tokens))
     }
 
     // So many bytes of the next token are passed, or all of it where it has no more.

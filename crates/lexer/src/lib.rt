@@ -4,7 +4,6 @@ mod cursor;
 
 pub use characters::char_len;
 pub use characters::is_utf8;
-pub use characters::rest_of_word;
 pub use cursor::Column;
 pub use cursor::Lexer;
 pub use cursor::Peeked;

@@ -23,7 +23,7 @@ use Rattle.items.specs.declared.choice.Piece.the-variants.{Character, Brace, It
 use Rattle.items.specs.declared.choice.Piece.the-variants.{Within as Within-scope}
 use Rattle.routines.specs.Stands.{Buffers, Here, posOf}
 use Rattle.routines.specs.Change.{remarked}
-use Rattle.routines.specs.Contract.{Ready, Runs}
+use Rattle.routines.specs.Contract.{Runs}
 use Rattle.routines.specs.declared.state.Mark.{Mark as CodeMark}
 use Rattle.routines.specs.declared.state.Mark.the-variants.{Nothing, At}
 use Rattle.routines.specs.declared.state.ListState.{ListState}

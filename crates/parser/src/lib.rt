@@ -3,10 +3,9 @@ mod clauses;
 mod lists;
 mod root;
 
-ghost use mathlib.Core.Path.{_≡_};
 ghost use Rattle.rules.specs.Checks.{sourceOf};
 ghost use Rattle.rules.specs.Flat.{flat};
-ghost use Rattle.rules.specs.Items.{classCommand, classEnvironment};
+ghost use Rattle.rules.specs.Items.{classCommand};
 ghost use Rattle.rules.specs.Reading as spec;
 ghost use Rattle.arg_match.specs.Answers.{matcherOf};
 ghost use Rattle.items.specs.Items.{shapeFor, pieceFor};
@@ -427,7 +426,7 @@ fn command(
     matched(text, tokens, shapes, states, tree, dropped, p, matcher)
 }
 
-// The arguments of a \\begin.
+// The arguments of a \begin.
 fn begin_arguments(
     text: &[u8],
     tokens: &[u32],
@@ -484,6 +483,7 @@ fn begin(
     extract_holding_trivia(tokens, tree, d)
 }
 
+// An environment: its \begin, its body, its \end.
 //   \begin{m}a\end{m}   Env[Begin[m] Text[a] End[m]]
 fn environment(
     text: &[u8],
@@ -525,6 +525,7 @@ fn environment(
     d.finish_node(tree, SyntaxKind::ITEM_ENV, p.builder.frame())
 }
 
+// A body between its delimiters.
 //   \left(a\right)   LR[ClauseLR[\left (] Text[a] ClauseLR[\right )]]
 fn item_lr(
     text: &[u8],
@@ -593,6 +594,7 @@ fn script(
     content(text, tokens, shapes, states, tree, dropped, a, true)
 }
 
+// A script or an apostrophe, around what stands from a mark on if there is one.
 //   a_b   Attach[Arg[Text a] _ b]
 fn attachment(
     text: &[u8],

@@ -1,6 +1,5 @@
 // What a list's loop asks around each item: whether another one is next, and what last is behind it.
 ghost use mathlib.Core.Path.{_≡_};
-ghost use mathlib.Core.Bool.{not};
 ghost use Prim.Native.Nat.{_<_, _≤_, _/_};
 ghost use lib.ListN.{length};
 ghost use Rattle.rules.specs.Cursor.{peek};

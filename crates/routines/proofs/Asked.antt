@@ -1,8 +1,7 @@
 -- What a test of the next token's kind comes to, from what `peek` told. Assumes nothing.
 use mathlib.Core.Path.{_≡_, ap, _∙_}
-use mathlib.Core.Bool.{Bool, true, false}
+use mathlib.Core.Bool.{Bool, false}
 use mathlib.Core.List.{List}
-use mathlib.Core.Option.{Option, none, some}
 use Prim.Native.Nat.{ℕ}
 use Rattle.rules.specs.Cursor.{Cursor, peek}
 use Rattle.rules.specs.Position.{asked}

@@ -1,24 +1,23 @@
 -- The builder's operations on the parser's state: the rule's outcome is the builder's with all else as it was, and what the builder tells of its
 -- numbers is what a routine lives on. Assumes nothing.
-use mathlib.Core.Path.{_≡_, refl, ap, _∙_}
+use mathlib.Core.Path.{_≡_, refl, _∙_}
 use mathlib.Core.List.{List}
-use Prim.Native.Nat.{ℕ, _+_, _*_, _≤_, _<_}
+use Prim.Native.Nat.{ℕ, _*_, _≤_}
 use native.Mathlib.Omega.{arith}
 use lib.ListN.{length, drop}
-use Rattle.rules.specs.Outcome.{Out, went, refused, bind}
+use Rattle.rules.specs.Outcome.{Out, went, bind}
 use Rattle.rules.specs.Flat as flat
 use Rattle.rules.specs.Position as spec
 use Rattle.rules.specs.Checks.{Tables}
 use Rattle.builder.specs.Stands as shown
 use Rattle.builder.specs.Contract as told
 use Rattle.builder.specs.declared.GreenNodeBuilder.{GreenNodeBuilder}
-use Rattle.builder.specs.declared.Checkpoint.{Checkpoint}
 use Rattle.builder.specs.declared.Built.{Built}
 use Rattle.builder.specs.declared.Built.the-variants as built
 use Rattle.builder.proofs.Facts as facts
 use Rattle.routines.specs.Stands.{Buffers, Here, posOf, outOf}
 use Rattle.routines.specs.Change.{rebuilt, buildingOf}
-use Rattle.routines.specs.Contract.{MarkOk, Steady, Ready, Passed, Leafed, Begun, Ended, Gone, Told, Opens, Closes}
+use Rattle.routines.specs.Contract.{MarkOk, Steady, Passed, Leafed, Begun, Ended, Gone, Told, Opens, Closes}
 use Rattle.routines.specs.declared.state.Mark.{Mark}
 use Rattle.routines.specs.declared.state.Mark.the-variants.{Nothing, At}
 use Rattle.routines.specs.declared.state.Parser.{Parser}

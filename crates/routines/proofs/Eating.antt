@@ -3,20 +3,18 @@ use mathlib.Core.Path.{_≡_, refl, sym, ap, _∙_}
 use mathlib.Core.Bool.{Bool, true, false}
 use mathlib.Core.List.{List, [], _∷_}
 use mathlib.Core.Logic.{⊎-elim}
-use Prim.Native.Nat.{ℕ, zero, suc, _+_, _≤_, _<_}
+use Prim.Native.Nat.{ℕ, zero, suc, _≤_, _<_}
 use native.Mathlib.Omega.{arith}
 use lib.ListN.{length}
-use Rattle.rules.specs.Outcome.{Out, went, bind}
 use Rattle.rules.specs.Flat.{flat}
 use Rattle.rules.specs.Checks.{Tables, sourceOf}
 use Rattle.rules.specs.Cursor.{Cursor, peek, left}
 use Rattle.rules.specs.Position.{asked}
 use Rattle.rules.specs.Routines.{eat, eatWhile}
 use Rattle.rules.specs.Tables.{tokenCount}
-use Rattle.rules.proofs.Characters.{either}
 use Rattle.lexer.specs.Reading.{cursorOf}
 use Rattle.lexer.proofs.Laws.{peek-none, left-some, le-or-lt}
-use Rattle.routines.specs.Stands.{Buffers, Here, posOf}
+use Rattle.routines.specs.Stands.{Buffers, posOf}
 use Rattle.routines.specs.Contract.{Ready, Ran, RuleOf, Somehow, leftOf}
 use Rattle.routines.specs.declared.state.Parser.{Parser}
 use Rattle.routines.specs.declared.state.Step.{Step}

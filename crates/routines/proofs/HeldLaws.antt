@@ -23,7 +23,7 @@ use Rattle.builder.specs.Contract.{Fits}
 use Rattle.builder.specs.Stands.{rowsOf}
 use Rattle.builder.proofs.Numbers.{one-more, the-rest}
 use Rattle.routines.specs.Stands.{Buffers, Here, posOf, outOf}
-use Rattle.routines.specs.Change.{relexed, unheld, ignored}
+use Rattle.routines.specs.Change.{relexed, unheld}
 use Rattle.routines.specs.Contract.{Ready, Passed, Left, Leafed, Told, Ran, Somehow, Holding, Droppable, Ignored}
 use Rattle.routines.specs.declared.state.Parser.{Parser}
 use Rattle.routines.specs.declared.state.Step.{Step}
@@ -90,11 +90,6 @@ lets-go count more few rest long ready =
     let s = ready .steady in
     remains ready (record { tree = refl; notes = rest; tree-long = refl; notes-long = long; rows = omega arith; dropped = more; token = omega arith; read = omega arith; light = omega arith })
     (s .fine) (s .token) few (s .fits) refl refl refl refl
-
-pub holds-none : {t : Tables} {p : Parser} {m : Buffers} {r : Parser} {lift : ℕ} → r ≡ unheld p
-    → Call t (λ n d q. went (position.holdingNone (flat n) q)) lift (λ q. Left t 0 p m q m) p m (Went r) m
-holds-none {p = p} e =
-    rw e (record { is = λ ready d h. refl; gone = λ ready. lets-go (p .dropped) (omega arith) (ready .steady .dropped) refl refl ready })
 
 pub holding-none : {t : Tables} {p : Parser} {m : Buffers} → Ready t p m → Holding (unheld p)
 holding-none ready = let few = ready .steady .dropped in record { held = omega arith; dropped = few }
@@ -193,12 +188,6 @@ ignores {t} {p} {tree} h k = record {
       let rest = rw (k .state) at (k .rest) in
       rw (k .state) (lets-go (p .dropped + (p .lexer .token - p .held)) (omega arith) (omega arith) rest (k .long) ready);
 }
-
-pub holding-ignored : {p : Parser} → Holding p → Holding (ignored p)
-holding-ignored h =
-    let held = h .held in
-    let few = h .dropped in
-    record { held = omega arith; dropped = omega arith }
 
 -- ---- what is held becomes leaves
 

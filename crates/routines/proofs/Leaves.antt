@@ -1,7 +1,7 @@
 -- A leaf is written and the cursor moves on: each leaf takes something of what is left to read. Assumes nothing.
-use mathlib.Core.Path.{_≡_, refl, sym, ap, _∙_}
+use mathlib.Core.Path.{_≡_, refl, ap, _∙_}
 use mathlib.Core.List.{List}
-use Prim.Native.Nat.{ℕ, _+_, _*_, _≤_, _<_}
+use Prim.Native.Nat.{ℕ, _+_, _≤_, _<_}
 use native.Mathlib.Omega.{arith}
 use lib.ListN.{length}
 use Rattle.rules.specs.Outcome.{Out, went, bind}
@@ -26,7 +26,7 @@ use Rattle.routines.specs.Change.{relexed}
 use Rattle.routines.specs.Contract.{Ready, Left, Leafed, Told, Somehow}
 use Rattle.routines.specs.declared.state.Parser.{Parser}
 use Rattle.routines.specs.declared.state.Step.{Step}
-use Rattle.routines.specs.declared.state.Step.the-variants.{Went, Refused}
+use Rattle.routines.specs.declared.state.Step.the-variants.{Went}
 use Rattle.routines.proofs.Building.{mark-more}
 use Rattle.routines.proofs.Walk.{Stopped, stop, stopped}
 

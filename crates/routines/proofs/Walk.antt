@@ -1,7 +1,7 @@
 -- The walk of a routine's rule beside its code: one record for where the code stands, one law for each kind of call. Assumes nothing.
 use mathlib.Core.Path.{_≡_, refl, sym, ap, _∙_}
 use mathlib.Core.List.{List, [], _∷_}
-use Prim.Native.Nat.{ℕ, zero, suc, _+_, _*_, _-_, _≤_, _<_}
+use Prim.Native.Nat.{ℕ, zero, suc, _+_, _*_, _-_, _≤_}
 use native.Mathlib.Omega.{arith}
 use lib.ListN.{length, drop}
 use lib.Seq.{drop-drop}
@@ -10,7 +10,7 @@ use Rattle.rules.specs.Outcome.{Out, went, refused, bind}
 use Rattle.rules.specs.Checks.{Tables, sourceOf}
 use Rattle.syntax.specs.declared.parse_scope.ParseScope.{ParseScope}
 use Rattle.routines.specs.Stands.{Buffers, Here, posOf, outOf}
-use Rattle.routines.specs.Contract.{MarkOk, Steady, Ready, Passed, Left, Begun, Ended, Gone, Told, RuleOf, Ran, Opens, Closes, Runs, Somehow}
+use Rattle.routines.specs.Contract.{Ready, Passed, Left, Begun, Ended, Gone, Told, RuleOf, Ran, Opens, Closes, Runs, Somehow}
 use Rattle.routines.specs.declared.state.Parser.{Parser}
 use Rattle.routines.specs.declared.state.Step.{Step}
 use Rattle.routines.specs.declared.state.Step.the-variants.{Went, Refused}

@@ -1,5 +1,5 @@
 -- A state with one part of it changed.
-use Prim.Native.Nat.{ℕ, _+_, _-_}
+use Prim.Native.Nat.{_+_, _-_}
 use Rattle.lexer.specs.declared.cursor.Lexer.{Lexer}
 use Rattle.builder.specs.declared.GreenNodeBuilder.{GreenNodeBuilder}
 use Rattle.builder.specs.declared.Built.{Built}

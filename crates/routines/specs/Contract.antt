@@ -14,7 +14,7 @@ use Rattle.rules.specs.Checks.{Tables, sourceOf}
 use Rattle.rules.specs.Position.{Source}
 use Rattle.rules.specs.Tables.{tokenCount, shapeAt}
 use Rattle.rules.specs.Token.{EndIf}
-use Rattle.rules.specs.Cursor.{Cursor, left}
+use Rattle.rules.specs.Cursor.{left}
 use Rattle.lexer.specs.Reading.{cursorOf}
 use Rattle.lexer.specs.Fine.{Sound, Fine}
 use Rattle.builder.specs.Contract.{Fits, Within, Inside}

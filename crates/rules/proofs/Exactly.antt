@@ -8,7 +8,7 @@ use native.Mathlib.Omega.{arith}
 use lib.ListN.{length, take, drop}
 use lib.Seq.{take-append-seam}
 use Rattle.rules.specs.Checks.{Tables, Refusal, checks, sourceOf}
-use Rattle.rules.specs.Exactly.{dropped}
+use Rattle.rules.specs.Exactly.{dropped, RanExactly}
 use Rattle.rules.specs.Flat
 use Rattle.rules.specs.Flat.{Built, Mark, flat}
 use Rattle.rules.specs.Limits
@@ -16,14 +16,14 @@ use Rattle.rules.specs.Outcome.{Out, went, refused}
 use Rattle.rules.specs.Placed.{Placed, Placing, bare, TreeOf}
 use Rattle.rules.specs.Position.{Pos, Source}
 use Rattle.rules.specs.Reading.{parse}
-use Rattle.rules.specs.Run.{accepted, Ran, over, afterReading, afterChecks, run}
+use Rattle.rules.specs.Run.{accepted, over, afterReading, afterChecks, run}
 use Rattle.rules.specs.SyntaxKind.{ScopeRoot}
 use Rattle.rules.specs.Tree.{Tree, node, layout}
 use Rattle.rules.proofs.Alike as alike
 use Rattle.rules.proofs.Control.{exactly-noted}
 use Rattle.rules.proofs.Goes.{went-goes}
 use Rattle.rules.proofs.Noting.{trees, noted-run, accepted-noted}
-use Rattle.rules.proofs.Reasons.{Reasoned, whole-rows, dropped-rows}
+use Rattle.rules.proofs.Reasons.{whole-rows, dropped-rows}
 
 -- ---- runs
 
@@ -66,15 +66,6 @@ pub only-tree : {source : Source} {t u : Placed} → TreeOf source t → TreeOf 
 only-tree a b =
     let ends : a .end ≡ b .end = the-end (sym (a .run) ∙ b .run) in
     the-child (sym (a .is) ∙ ap (λ (p : Pos Placing ℕ). p .built .children) ends ∙ b .is)
-
--- an accepted run of so many rows and dropped rows: what both buffers begin with
-pub record RanExactly (t : Tables) (rows count : ℕ) (r : Ran) : Type 0 where
-  pub tree : Placed
-  pub of : TreeOf (sourceOf t) tree
-  pub laid : take (rows * Limits.treeWidth) (r .tree) ≡ layout (bare tree)
-  pub only : take (count * Limits.droppedWidth) (r .dropped) ≡ dropped (sourceOf t) tree
-  -- and the reason of each fits its token
-  pub reasons : Reasoned (sourceOf t) count (take (count * Limits.droppedWidth) (r .dropped))
 
 -- what is written over a buffer is what the buffer then begins with
 begins : (l buffer : List ℕ) (n : ℕ) → n ≡ length l → take n (over l buffer) ≡ l

@@ -4,8 +4,8 @@ use Prim.Native.Nat.{ℕ}
 use Rattle.rules.specs.Outcome.{Out, went, refused, bind}
 use Rattle.rules.specs.SyntaxKind.{ClauseArgument}
 use Rattle.rules.specs.Flat as rows
-use Rattle.rules.specs.Flat.{Rows, Mark, Built, onTree, flat}
-use Rattle.rules.specs.Position.{At, Pos, place, withBuilt, building, wrap}
+use Rattle.rules.specs.Flat.{Rows, Mark, onTree, flat}
+use Rattle.rules.specs.Position.{At, place, withBuilt, building, wrap}
 
 module _ (n : ℕ) where
   -- the same position with other rows

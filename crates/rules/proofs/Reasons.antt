@@ -3,48 +3,36 @@
 use Prim.Native.Nat.{ℕ, zero, suc, _+_, _-_, _*_}
 use mathlib.Core.Path.{_≡_, refl}
 use mathlib.Core.Bool.{Bool, true, false, cond, _&&_, _||_, false≢true}
-use mathlib.Core.List.{List, [], _∷_, _++_}
+use mathlib.Core.List.{List, [], _++_}
 use mathlib.Core.Option.{Option, none, some}
 use native.Mathlib.Omega.{arith}
 use lib.Dec.{eqb}
 use lib.ListN.{length}
-use Rattle.rules.specs.Exactly.{kindOf, isBlank, opensIf, passes, blanksFrom, passedBefore, endOf, isBody, closing, closerRow, droppedIn, droppedAll, droppedPassing}
+use Rattle.rules.specs.Exactly.{Reason, trivia, opener, closer, Reasoned, no-row, a-row, kindOf, isBlank, opensIf, passes, blanksFrom, passedBefore, endOf, isBody, closing, closerRow, droppedIn, droppedAll, droppedPassing}
 use Rattle.rules.specs.Flat.{droppedRow, reasonTrivia, reasonOpener, reasonCloser}
 use Rattle.rules.specs.Limits
 use Rattle.rules.specs.Placed.{Placed, Places, leaf, node, none, more, leavesIn, leavesAll}
 use Rattle.rules.specs.Position.{Source}
-use Rattle.rules.specs.Scope.{among}
 use Rattle.rules.specs.SyntaxKind
 use Rattle.rules.specs.Tables.{tokenCount}
 use Rattle.rules.specs.Token
 
 module _ (source : Source) where
-  -- "reason (1 trivia, 2 opener, 3 closer)": what it says of a token
-  pub data Reason (token : ℕ) : ℕ → Type 0 where
-    trivia : isBlank source token ≡ true → Reason token reasonTrivia
-    opener : among (kindOf source token) (Token.IfFalse ∷ Token.IfTypst ∷ []) ≡ true → Reason token reasonOpener
-    closer : eqb Token.EndIf (kindOf source token) ≡ true → Reason token reasonCloser
-
-  -- so many dropped rows, each with a reason that fits its token
-  pub data Reasoned : ℕ → List ℕ → Type 0 where
-    no-row : Reasoned 0 []
-    a-row : {n token reason leaves : ℕ} {rest : List ℕ} → Reason token reason → Reasoned n rest → Reasoned (suc n) (token ∷ reason ∷ leaves ∷ rest)
-
-  pub whole-rows : {n : ℕ} {l : List ℕ} → Reasoned n l → n * Limits.droppedWidth ≡ length l
+  pub whole-rows : {n : ℕ} {l : List ℕ} → Reasoned source n l → n * Limits.droppedWidth ≡ length l
   whole-rows no-row = refl
   whole-rows (a-row reason rest) = let more = whole-rows rest in omega arith
 
   pub record Rows (l : List ℕ) : Type 0 where
     pub count : ℕ
-    pub rows : Reasoned count l
+    pub rows : Reasoned source count l
 
   no-rows : Rows []
   no-rows = record { count = 0; rows = no-row }
 
-  one-row : (token reason leaves : ℕ) → Reason token reason → Rows (droppedRow token reason leaves)
+  one-row : (token reason leaves : ℕ) → Reason source token reason → Rows (droppedRow token reason leaves)
   one-row token reason leaves fits = record { count = 1; rows = a-row fits no-row }
 
-  append-rows : {l k : List ℕ} {n : ℕ} → Reasoned n l → Rows k → Rows (l ++ k)
+  append-rows : {l k : List ℕ} {n : ℕ} → Reasoned source n l → Rows k → Rows (l ++ k)
   append-rows no-row h = h
   append-rows (a-row fits rest) h = let behind = append-rows rest h in record { count = suc (behind .count); rows = a-row fits (behind .rows) }
 
@@ -74,7 +62,7 @@ module _ (source : Source) where
   opens false true false false e = absurd (false≢true e)
   opens false false false false e = absurd (false≢true e)
 
-  opener-fits : (kind from : ℕ) → isBody source kind from ≡ true → Reason from reasonOpener
+  opener-fits : (kind from : ℕ) → isBody source kind from ≡ true → Reason source from reasonOpener
   unfolding isBody
   opener-fits kind from e = opener (opens (eqb kind SyntaxKind.ItemBlockComment) (eqb kind SyntaxKind.ItemTypstCode) (eqb (kindOf source from) Token.IfFalse) (eqb (kindOf source from) Token.IfTypst) e)
 

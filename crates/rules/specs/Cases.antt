@@ -3,7 +3,6 @@ use Prim.Native.Nat.{ℕ, _-_, _/_}
 use mathlib.Core.Path.{_≡_, refl}
 use mathlib.Core.List.{List, [], _∷_, _++_, map}
 use lib.ListN.{length, replicate}
-use Rattle.rules.specs.Checks.{Tables}
 use Rattle.rules.specs.Limits
 use Rattle.rules.specs.Run.{Answer, accepted, refusedAt, Ran, run}
 use Rattle.rules.specs.Scope as Scope

@@ -2,19 +2,25 @@
 -- comments that a non-greedy command or a \begin itself passed before an argument it then accepted (those an inner command passed and left behind its node
 -- stay leaves), the opener of an \iffalse or \iftypst body that is read as one (what stands inside a skipped body opens and closes none), and that body's
 -- closing \fi if it has one."
-use Prim.Native.Nat.{ℕ, zero, suc, _+_, _-_}
-use mathlib.Core.Bool.{Bool, not, cond, _&&_, _||_}
+use Prim.Native.Nat.{ℕ, zero, suc, _+_, _*_, _-_}
+use mathlib.Core.Path.{_≡_}
+use mathlib.Core.Bool.{Bool, true, not, cond, _&&_, _||_}
 use mathlib.Core.List.{List, [], _∷_, _++_}
 use mathlib.Core.Option.{Option, none, some}
 use lib.Dec.{eqb}
+use lib.ListN.{take}
+use Rattle.rules.specs.Checks.{Tables, sourceOf}
 use Rattle.rules.specs.Flat.{droppedRow, reasonTrivia, reasonOpener, reasonCloser}
 use Rattle.rules.specs.Items.{classCommand, ofClass}
+use Rattle.rules.specs.Limits
 use Rattle.rules.specs.Matcher.{formGreedy, formInfixGreedy}
-use Rattle.rules.specs.Placed.{Placed, Places, leaf, node, none, more, leavesIn, leavesAll}
+use Rattle.rules.specs.Placed.{Placed, Places, leaf, node, none, more, leavesIn, leavesAll, bare, TreeOf}
 use Rattle.rules.specs.Position.{Source}
+use Rattle.rules.specs.Run.{Ran}
 use Rattle.rules.specs.Scope.{among}
 use Rattle.rules.specs.SyntaxKind
 use Rattle.rules.specs.Tables.{kindAt, tokenCount}
+use Rattle.rules.specs.Tree.{layout}
 use Rattle.rules.specs.Token
 
 module _ (source : Source) where
@@ -98,3 +104,25 @@ module _ (source : Source) where
   -- the dropped rows of a run with this tree
   abbrev pub dropped : Placed → List ℕ
   dropped tree = droppedIn 0 tree
+
+  -- ---- what is proved of a run
+
+  -- "reason (1 trivia, 2 opener, 3 closer)": what it says of a token
+  pub data Reason (token : ℕ) : ℕ → Type 0 where
+    trivia : isBlank token ≡ true → Reason token reasonTrivia
+    opener : among (kindOf token) (Token.IfFalse ∷ Token.IfTypst ∷ []) ≡ true → Reason token reasonOpener
+    closer : eqb Token.EndIf (kindOf token) ≡ true → Reason token reasonCloser
+
+  -- so many dropped rows, each with a reason that fits its token
+  pub data Reasoned : ℕ → List ℕ → Type 0 where
+    no-row : Reasoned 0 []
+    a-row : {n token reason leaves : ℕ} {rest : List ℕ} → Reason token reason → Reasoned n rest → Reasoned (suc n) (token ∷ reason ∷ leaves ∷ rest)
+
+-- an accepted run of so many rows and dropped rows: what both buffers begin with
+pub record RanExactly (t : Tables) (rows count : ℕ) (r : Ran) : Type 0 where
+  pub tree : Placed
+  pub of : TreeOf (sourceOf t) tree
+  pub laid : take (rows * Limits.treeWidth) (r .tree) ≡ layout (bare tree)
+  pub only : take (count * Limits.droppedWidth) (r .dropped) ≡ dropped (sourceOf t) tree
+  -- and the reason of each fits its token
+  pub reasons : Reasoned (sourceOf t) count (take (count * Limits.droppedWidth) (r .dropped))

@@ -3,7 +3,7 @@ use Prim.Native.Nat.{ℕ}
 use mathlib.Core.Bool.{Bool, true, false, not, cond, _&&_, _||_}
 use mathlib.Core.List.{List, [], _∷_}
 use lib.Dec.{eqb, leb}
-use Rattle.rules.specs.Matcher.{Argument, term, bracket, paren, Matcher, Tried, refused, accepted, Matched, none, whole, bare, formNone, formFixed, formGreedy, formLeft1, formInfixGreedy, tryMatch, matchAsTerm}
+use Rattle.rules.specs.Matcher.{term, bracket, paren, Matcher, Tried, refused, accepted, Matched, none, whole, bare, formNone, formFixed, formGreedy, formLeft1, formInfixGreedy, tryMatch, matchAsTerm}
 use Rattle.rules.specs.Kinds.{isTrivia}
 use Rattle.rules.specs.Limits
 use Rattle.rules.specs.Position.{Shape}

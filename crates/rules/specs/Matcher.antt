@@ -1,7 +1,7 @@
 -- The argument matcher (arg_match.rs): what a shape accepts as the next argument. The glob string is a state's number.
 use Prim.Native.Nat.{ℕ, _+_, _-_}
 use mathlib.Core.Bool.{Bool, true, false, cond}
-use mathlib.Core.List.{List, [], _∷_}
+use mathlib.Core.List.{List}
 use lib.Dec.{eqb, ltb}
 use Rattle.rules.specs.Limits
 use Rattle.rules.specs.Tables.{cell}

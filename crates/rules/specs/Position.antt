@@ -4,7 +4,7 @@ use mathlib.Core.Bool.{Bool, false}
 use mathlib.Core.List.{List, [], _∷_}
 use mathlib.Core.Option.{Option, none, some}
 use Rattle.rules.specs.Builder.{Builder, Leaf}
-use Rattle.rules.specs.Cursor.{Cursor, peek}
+use Rattle.rules.specs.Cursor.{Cursor}
 use Rattle.rules.specs.Outcome.{Out, went, bind}
 use Rattle.rules.specs.Scope.{Scope}
 use Rattle.rules.specs.SyntaxKind.{ClauseArgument}

@@ -2,7 +2,7 @@
 -- `contentAt` ties the knot. "These call each other in a cycle; the number of nodes that may yet be opened falls."
 use Prim.Native.Nat.{ℕ, zero, suc}
 use mathlib.Core.Bool.{Bool, true, false, cond}
-use mathlib.Core.List.{List, [], _∷_}
+use mathlib.Core.List.{[], _∷_}
 use mathlib.Core.Option.{Option, none, some}
 use lib.Dec.{eqb}
 use Rattle.rules.specs.Builder.{Builder}
@@ -11,7 +11,7 @@ use Rattle.rules.specs.Items.{Item, plain, error, word, comma, group, at
 use Rattle.rules.specs.Limits
 use Rattle.rules.specs.Matcher.{Matcher, startMatch, isGreedy, formLeft1, formInfixGreedy}
 use Rattle.rules.specs.Outcome.{Out, went, refused, bind, greedyEnvironment, tooManyOpen}
-use Rattle.rules.specs.Position.{Shape, Source, ListState, At, Rule, steps, place, withLexer, withList, withMarks, holdingNone, start, finish, wrap}
+use Rattle.rules.specs.Position.{Shape, Source, At, Rule, steps, place, withList, withMarks, holdingNone, start, finish, wrap}
 use Rattle.rules.specs.Routines.{next, turns, eat, eatIf, trivia, singleChar, oneIn, holdTrivia, ignoreHoldingTrivia, extractHoldingTrivia, text, clauseLr, skippedBody, startCommandAt}
 use Rattle.rules.specs.Scope
 use Rattle.rules.specs.Scope.{Scope, stops}

@@ -1,16 +1,16 @@
 -- The routines of parser.rs that read no item inside another: over any builder, for what is read.
 use Prim.Native.Nat.{ℕ, zero, suc, _+_, _-_}
 use mathlib.Core.Bool.{Bool, true, cond}
-use mathlib.Core.List.{List, [], _∷_}
+use mathlib.Core.List.{[], _∷_}
 use mathlib.Core.Option.{Option, none, some}
 use lib.Dec.{eqb}
-use Rattle.rules.specs.Builder.{Builder, Leaf}
+use Rattle.rules.specs.Builder.{Builder}
 use Rattle.rules.specs.Characters.{charLength}
 use Rattle.rules.specs.Cursor.{peek, restStart, restLength, peekText, eaten, consumed, left}
 use Rattle.rules.specs.Flat.{reasonTrivia, reasonOpener, reasonCloser}
 use Rattle.rules.specs.Items.{isCommandName, isIf}
 use Rattle.rules.specs.Kinds.{leafKind, isTrivia, isTextComponent}
-use Rattle.rules.specs.Outcome.{Out, went, bind}
+use Rattle.rules.specs.Outcome.{went, bind}
 use Rattle.rules.specs.Position.{Source, At, Rule, steps, asked, place, withBuilt, withLexer, leaf, start, finish, wrap, holdingNone}
 use Rattle.rules.specs.SyntaxKind
 use Rattle.rules.specs.Tables.{kindAt, startAt, lengthAt}

@@ -1,6 +1,6 @@
 -- What the answers of `read` and `list` tell their caller: each is the only one that meets its contract, the tables of a sheet that is read stand in the
 -- sheet and in the numbers where its sections say, and a listing that is written stands whole at the start of the bytes. Assumes nothing.
-use Prim.Native.Nat.{ℕ, _+_, _≤_, min}
+use Prim.Native.Nat.{ℕ, _+_, _≤_}
 use mathlib.Core.Bool.{true}
 use mathlib.Core.List.{List, _++_, append-assoc}
 use mathlib.Core.Option.{Option, none, some}
@@ -8,7 +8,7 @@ use mathlib.Core.Path.{_≡_, refl, sym, _∙_}
 use native.Mathlib.Omega.{arith}
 use borrow.Author.Tests.{leb-true, le-leb}
 use lib.Dec.{leb}
-use lib.ListN.{length, take, drop, length-append}
+use lib.ListN.{length, drop, length-append}
 use lib.Seq.{take-at, drop-at, drop-drop}
 use Rattle.rules.specs.Checks.{Tables}
 use Rattle.rules.specs.Run.{over}
@@ -17,9 +17,8 @@ use Rattle.rules.specs.Tables.{part}
 use Rattle.rules.specs.Treelist.{mostNumbers}
 use Rattle.rules.proofs.Characters.{either}
 use Rattle.rules.proofs.Sheet.{whole, text-inside, text-long, numbers-few}
-use Rattle.sheets.specs.Contract.{Reads, numbersOf, sectionsOf, Lists, most}
+use Rattle.sheets.specs.Contract.{Reads, numbersOf, sectionsOf, Lists}
 use Rattle.sheets.specs.declared.listing.Listed.{Listed}
-use Rattle.sheets.specs.declared.listing.Listed.the-variants as listed
 use Rattle.sheets.specs.declared.sections.Sections.{Sections}
 use Rattle.sheets.specs.declared.sheet.Sheet.{Sheet}
 use Rattle.sheets.specs.declared.sheet.Sheet.the-variants.{Read, Refused, NoRoom}
@@ -116,14 +115,3 @@ module _ (sheet : List ℕ) {numbers v : List ℕ} {r : Sheet} (k : Reads (read 
       rw (← same, all) (stands sheet numbers ok (leb-true _ _ room)))
       (λ more. let is : r ≡ NoRoom (length (numbersOf (tablesOf sheet))) = rw (ok, more) at (k .answer) in never (cc)))
       (λ bad. let is : r ≡ Refused = rw bad at (k .answer) in never (cc))
-
--- ---- a listing that is written
-pub told-bytes : {lines out v : List ℕ} {r : Listed} {n : ℕ} → Lists lines out r v → r ≡ listed.Bytes n → (n ≤ length out) × (take n v ≡ lines)
-told-bytes {lines} {out} {v} {r} {n} k e =
-    either (leb (length lines) (length out))
-    (λ fits.
-    let is : r ≡ listed.Bytes (length lines) = rw fits at (k .answer) in
-    let same : length lines ≡ n = cc in
-    let all : v ≡ over lines out = rw fits at (k .written) in
-    rw (← same, all) (leb-true _ _ fits, take-at lines (drop (length lines) out) (length lines) refl))
-    (λ more. let is : r ≡ listed.NoRoom (min (length lines) most) = rw more at (k .answer) in never (cc))

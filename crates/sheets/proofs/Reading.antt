@@ -39,7 +39,7 @@ after₂ s numbers y₁ y₂ = putMid (end₁ s) (end₂ s - end₁ s) (after₁
 module _ (sheet numbers : List ℕ) where
   pub refused : readable sheet ≡ false → Reads (read sheet) numbers Refused numbers
   unfolding read
-  refused e = record { answer = rw e; written = rw e }
+  refused e = record { answer = rw e; refusal = rw e; written = rw e }
 
   module _ {s : Sections} (ok : readable sheet ≡ true) (k : Counted sheet s) where
     long : (at n : ℕ) → n ≡ numberAt sheet at / numberBytes → length (tableAt sheet at) ≡ n
@@ -61,7 +61,7 @@ module _ (sheet numbers : List ℕ) where
     no-room more =
         let all = total in
         let longer : length numbers < length (numbersOf (tablesOf sheet)) = omega arith in
-        record { answer = rw (ok, lt-leb _ _ longer, all); written = rw (ok, lt-leb _ _ longer) }
+        record { answer = rw (ok, lt-leb _ _ longer, all); refusal = rw ok; written = rw (ok, lt-leb _ _ longer) }
 
     pub all-read : {v : List ℕ} → s .tokens + s .shapes + s .states ≤ length numbers
         → v ≡ ((tableAt sheet (tokensAt sheet) ++ tableAt sheet (shapesAt sheet)) ++ tableAt sheet (statesAt sheet)) ++ drop (s .tokens + s .shapes + s .states) numbers
@@ -72,6 +72,7 @@ module _ (sheet numbers : List ℕ) where
         let room : length (numbersOf (tablesOf sheet)) ≤ length numbers = omega arith in
         record {
           answer = rw (ok, le-leb _ _ room, counted);
+          refusal = rw ok;
           written = rw (ok, le-leb _ _ room, all) (e ∙ rw (append-assoc (tableAt sheet (tokensAt sheet)) (tableAt sheet (shapesAt sheet)) (tableAt sheet (statesAt sheet))));
         }
 

@@ -7,9 +7,10 @@ use mathlib.Core.Path.{_≡_}
 use lib.Dec.{leb}
 use lib.ListN.{length}
 use lib.Seq.{sets}
-use Rattle.rules.specs.Checks.{Tables}
+use Rattle.rules.specs.Checks.{Tables, Refusal}
 use Rattle.rules.specs.Run.{over}
-use Rattle.rules.specs.Sheet.{numberBytes, numberAt, textAt, tokensAt, shapesAt, statesAt, endOf}
+use Rattle.rules.specs.Sheet.{numberBytes, numberAt, textAt, tokensAt, shapesAt, statesAt, endOf, unreadable}
+use Rattle.sheets.specs.Stands.{refusalOf}
 use Rattle.sheets.specs.declared.listing.Listed.{Listed}
 use Rattle.sheets.specs.declared.listing.Listed.the-variants as listed
 use Rattle.sheets.specs.declared.sections.Places.{Places}
@@ -55,8 +56,14 @@ abbrev pub numbersAfter : Option Tables → List ℕ → List ℕ
 numbersAfter none numbers = numbers
 numbersAfter (some t) numbers = cond (leb (length (numbersOf t)) (length numbers)) (over (numbersOf t) numbers) numbers
 
+-- refused 9 where the sheet is of no tables
+abbrev pub refusedFor : Option Tables → Option Refusal
+refusedFor none = some (unreadable, 0)
+refusedFor (some t) = none
+
 pub record Reads (tables : Option Tables) (numbers : List ℕ) (r : Sheet) (after : List ℕ) : Type 0 where
   pub answer : r ≡ answerFor tables (length numbers)
+  pub refusal : refusalOf r ≡ refusedFor tables
   pub written : after ≡ numbersAfter tables numbers
 
 -- ---- writing

@@ -1,6 +1,11 @@
 -- The run's answer in the paper's numbers.
+use mathlib.Core.Option.{Option, none, some}
 use Rattle.rules.specs.Run.{accepted, refusedAt}
 use Rattle.rules.specs.Run as run
+use Rattle.rules.specs.Checks.{Refusal}
+use Rattle.rules.specs.Sheet.{unreadable}
+use Rattle.sheets.specs.declared.sheet.Sheet.{Sheet}
+use Rattle.sheets.specs.declared.sheet.Sheet.the-variants as sheet
 use Rattle.sheets.specs.declared.answer.Answer.{Answer}
 use Rattle.sheets.specs.declared.answer.Answer.the-variants.{Accepted, Refused}
 
@@ -8,3 +13,9 @@ use Rattle.sheets.specs.declared.answer.Answer.the-variants.{Accepted, R
 abbrev pub answerOf : Answer → run.Answer
 answerOf (Accepted rows count) = accepted rows count
 answerOf (Refused number place) = refusedAt number place
+
+-- "A sheet that is longer, of another version, cut short, followed by more, or with a table not of whole numbers prints `refused 9 0`"
+abbrev pub refusalOf : Sheet → Option Refusal
+refusalOf sheet.Refused = some (unreadable, 0)
+refusalOf (sheet.Read sections) = none
+refusalOf (sheet.NoRoom numbers) = none

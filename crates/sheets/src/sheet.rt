@@ -1,5 +1,4 @@
 // A sheet is read: its text stays where it is, and its numbers go into a lent buffer.
-ghost use mathlib.Core.Path.{_≡_};
 ghost use Rattle.rules.specs.Sheet.{read};
 ghost use Rattle.sheets.specs.Contract.{Reads};
 use crate::number::Bytes;

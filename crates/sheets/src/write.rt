@@ -2,7 +2,7 @@
 // end they are counted and not written; the count stays at the largest number once it is there.
 ghost use Rattle.rules.specs.Listing.{decimal, numbered, blank};
 ghost use Rattle.sheets.specs.Contract.{Wrote};
-ghost use mathlib.Core.List.{[], _∷_, _++_};
+ghost use mathlib.Core.List.{[], _∷_};
 
 const MOST: usize = 18_446_744_073_709_551_615;
 

@@ -1,2 +1,3 @@
+-- What the proofs of several functions use, and what other crates cite.
 pub mod Scopes
 pub mod Arms

@@ -1,4 +1,4 @@
--- Buffers in which every answer's lines have room, and lines that are printed into one.
+-- The program's buffers, of the sizes that document 01 gives, in which every answer's lines have room; and lines that are printed into one.
 use Prim.Native.Nat.{ℕ, _*_, _≤_}
 use mathlib.Core.List.{List}
 use mathlib.Core.Path.{_≡_}
@@ -8,8 +8,8 @@ use Rattle.rules.specs.Run.{over}
 use Rattle.rules.specs.Treelist.{treeRows, droppedRows, mostPrinted}
 
 pub record Small (tree dropped out : List ℕ) : Type 0 where
-  pub tree-rows : length tree ≤ treeRows * Limits.treeWidth
-  pub dropped-rows : length dropped ≤ droppedRows * Limits.droppedWidth
+  pub tree-rows : length tree ≡ treeRows * Limits.treeWidth
+  pub dropped-rows : length dropped ≡ droppedRows * Limits.droppedWidth
   pub room : mostPrinted ≤ length out
 
 -- the lines stand whole at the buffer's start, and later bytes keep what they held

@@ -1,7 +1,6 @@
 -- `within_limits` meets its contract: its tests are the rule's, in its order. Assumes nothing.
 use borrow.Author.Needs.{needs}
 use borrow.Author.Tests.{le-leb, lt-leb}
-use mathlib.Core.Path.{sym, _∙_}
 use Rattle.rules.specs.Checks.{withinLimits}
 use Rattle.rules.proofs.Asked.{missed, met}
 use Rattle.checks.proofs.limits.within_limits.Statement.{statement}

@@ -1,11 +1,11 @@
 -- `shape_right` meets its contract. Of the forms up to the last, left1 and infix-greedy are those from left1 on. Assumes nothing.
 use Prim.Native.Nat.{ℕ, _≤_}
 use borrow.Author.Needs.{needs}
-use borrow.Author.Tests.{eq-eqb, ne-eqb, eqb-false, le-leb, lt-leb, le-ltb}
+use borrow.Author.Tests.{ne-eqb, eqb-false, le-leb, lt-leb, le-ltb}
 use lib.Dec.{eqb, leb}
 use mathlib.Core.Bool.{Bool, false, not, _&&_, _||_, and-false, or-true}
 use mathlib.Core.List.{[], _∷_}
-use mathlib.Core.Path.{_≡_, sym, _∙_}
+use mathlib.Core.Path.{_≡_, sym}
 use native.Mathlib.Omega.{arith}
 use Rattle.rules.specs.Checks.{shapeRight}
 use Rattle.rules.specs.Matcher.{formLeft1, formInfixGreedy}

@@ -1,6 +1,5 @@
 -- `lists::last_after` meets its contract: attachable is asked of the item's first token and its shape. Assumes nothing.
-use mathlib.Core.Path.{_≡_, refl, sym, ap, _∙_}
-use mathlib.Core.Logic.{inl, inr}
+use mathlib.Core.Path.{sym, ap, _∙_}
 use borrow.Author.Needs.{needs}
 use Rattle.parser.proofs.Marks.{attached, last-kept, last-moved}
 use Rattle.parser.proofs.lists.last_after.Statement.{statement}

@@ -1,5 +1,5 @@
 -- `lists::new_list` meets its contract: the start mark is the builder's here. Assumes nothing.
-use mathlib.Core.Path.{_≡_, ap, _∙_}
+use mathlib.Core.Path.{ap, _∙_}
 use borrow.Author.Needs.{needs}
 use Rattle.routines.specs.Change.{relisted}
 use Rattle.routines.specs.declared.state.Mark.the-variants.{Nothing, At}

@@ -1,6 +1,6 @@
 -- `held::extract_holding_trivia` meets its contract: each turn makes a leaf of the next held token. Assumes nothing.
 use Prim.Native.Nat.{_-_}
-use mathlib.Core.Path.{_≡_, ap, _∙_}
+use mathlib.Core.Path.{ap, _∙_}
 use native.Mathlib.Omega.{arith}
 use borrow.Author.Needs.{needs}
 use Rattle.rules.specs.Kinds.{leafKind}

@@ -1,5 +1,5 @@
 -- `held::hold_trivia` meets its contract: the cursor is the rule's. Assumes nothing.
-use mathlib.Core.Path.{_≡_, ap, _∙_}
+use mathlib.Core.Path.{ap, _∙_}
 use borrow.Author.Needs.{needs}
 use Rattle.rules.specs.Cursor.{Cursor}
 use Rattle.routines.specs.Change.{relexed}

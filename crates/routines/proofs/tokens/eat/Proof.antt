@@ -1,7 +1,5 @@
 -- `tokens::eat` meets its contract: the kind of the leaf is what the token's kind turns into. Assumes nothing.
-use mathlib.Core.Path.{_≡_, sym, _∙_, ap}
 use borrow.Author.Needs.{needs}
-use Rattle.rules.specs.Kinds.{leafKind}
 use Rattle.rules.specs.Routines.{eat}
 use Rattle.routines.proofs.Walk.{ran-as}
 use Rattle.routines.proofs.tokens.eat.Statement.{statement}

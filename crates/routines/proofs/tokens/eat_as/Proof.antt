@@ -1,6 +1,6 @@
 -- `tokens::eat_as` meets its contract: the leaf is what is left of the next token, and then that token is passed. Assumes nothing.
 use mathlib.Core.List.{[]}
-use mathlib.Core.Path.{_≡_, ap, _∙_}
+use mathlib.Core.Path.{ap, _∙_}
 use native.Mathlib.Omega.{arith}
 use borrow.Author.Needs.{needs}
 use Rattle.rules.specs.Cursor.{eaten}

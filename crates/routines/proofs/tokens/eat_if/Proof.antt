@@ -1,5 +1,5 @@
 -- `tokens::eat_if` meets its contract: the token is eaten where it is of the kind, and else nothing is done. Assumes nothing.
-use mathlib.Core.Path.{_≡_, sym, _∙_}
+use mathlib.Core.Path.{sym}
 use lib.Dec.{eqb}
 use borrow.Author.Needs.{needs}
 use borrow.Author.Tests.{eq-eqb, ne-eqb}

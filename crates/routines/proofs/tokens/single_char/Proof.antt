@@ -1,12 +1,11 @@
 -- `tokens::single_char` meets its contract: the leaf is the first character of the Word that is handed on, and then it is passed. Assumes nothing.
 use mathlib.Core.List.{[]}
-use mathlib.Core.Path.{_≡_, sym, ap, _∙_}
+use mathlib.Core.Path.{_∙_}
 use native.Mathlib.Omega.{arith}
 use borrow.Author.Needs.{needs}
 use Rattle.rules.specs.Cursor.{consumed}
 use Rattle.rules.specs.SyntaxKind.{TokenWord}
 use Rattle.rules.proofs.Characters.{char-four}
-use Rattle.lexer.specs.Reading.{cursorOf}
 use Rattle.routines.proofs.Leaves.{here-of, seen-less, onward-char, single-char-is, leaf-stops, leaf-goes-on, same-lexer}
 use Rattle.routines.proofs.tokens.single_char.Statement.{statement}
 use Rattle.routines.proofs.tokens.single_char.Tie as tie

@@ -5,7 +5,6 @@ use borrow.Author.Tests.{le-ltb}
 use lib.ListN.{getD}
 use mathlib.Core.List.{List}
 use mathlib.Core.Path.{_≡_, refl, sym, _∙_, ap}
-use native.Mathlib.Omega.{arith}
 use Rattle.rules.proofs.Table.{table, at}
 use Rattle.rules.specs.Kinds.{leafKind}
 use Rattle.rules.specs.Limits
