@@ -1,6 +1,5 @@
 // Numbers out of bytes, big-endian. Where there is no byte 0 stands for it: a case that is cut short is replayed, and differs.
-ghost use Prim.Native.Nat.{_+_, _^_, _≤_, _<_};
-ghost use Rattle.io.specs.Counts.{Counts};
+ghost use Prim.Native.Nat.{_^_, _<_};
 
 fn of_byte(x: u8) -> usize
     ensures { λ r. ⌜ r < 2 ^ 8 ⌝ }
@@ -39,35 +38,4 @@ pub fn number(case: &[u8], at: usize) -> usize
     ensures { λ r. ⌜ r < 2 ^ 32 ⌝ }
 {
     short(case, at) * 65_536 + short(case, at + 2)
-}
-
-// Where a table ends whose length stands at `at`.
-pub fn behind(case: &[u8], at: usize) -> usize
-    requires { ⌜ at < 2 ^ 38 ⌝ }
-    ensures { λ r. ⌜ (at + 4 ≤ r) × (r < at + 2 ^ 33) ⌝ }
-{
-    at + 4 + number(case, at)
-}
-
-fn least(a: usize, b: usize) -> usize
-    ensures { λ r. ⌜ (r ≤ a) × (r ≤ b) ⌝ }
-{
-    if a < b {
-        return a;
-    }
-    b
-}
-
-// The numbers of a table whose length stands at `at`, into the first of a buffer: how many there are, at most its room.
-pub fn numbers(case: &[u8], at: usize, out: &mut [u32]) -> usize
-    requires { ⌜ at < 2 ^ 37 ⌝ }
-    ensures { λ r. ⌜ Counts r (now (out .exit)) ⌝ }
-{
-    let count = least(number(case, at) / 4, out.len());
-    let mut i = 0;
-    while i < count {
-        out[i] = number(case, at + 4 + i * 4) as u32;
-        i = i + 1;
-    }
-    count
 }

@@ -1,13 +1,20 @@
-// Replays the recorded list, `cases.bin` of its data folder, and prints how many cases there are and how many of them differ.
+// Replays the recorded list, `cases.bin` of its data folder, and prints how many cases there are and how many of them differ; then of how many
+// accepted ones the texts were put back, and of how many they are not the token texts.
+ghost use mathlib.Core.Path.{_≡_};
+ghost use mathlib.Core.Bool.{cond};
+ghost use Prim.Native.Nat.{_≤_};
 ghost use Rattle.io.specs.Counts.{Counts};
 
+mod back;
 mod bytes;
 mod compare;
 mod replay;
+mod texts;
 
 use bytes::number;
 use libc::STDOUT_FILENO;
-use replay::agrees;
+use replay::Replayed;
+use replay::replay;
 
 // No list has more cases: the loop over a file has to end, and nothing says that the file does.
 const MOST: u64 = 1_000_000;
@@ -27,41 +34,51 @@ fn read_case(fd: i32, case: &mut [u8]) -> usize
     io::read_full(fd, &mut case[..size])
 }
 
-// Whether there was a case, and whether the run agrees with it.
-enum Replayed {
+// A case's replay, or that there is none left.
+enum Next {
     End,
-    Agrees,
-    Differs,
+    Case(Replayed),
 }
 
-fn replay_next(fd: i32) -> Replayed {
+fn replay_next(fd: i32) -> Next {
     let mut case = io::large_buffer();
     let size = read_case(fd, &mut case);
     if size == 0 {
-        return Replayed::End;
+        return Next::End;
     }
-    if agrees(&case[..size]) {
-        return Replayed::Agrees;
-    }
-    Replayed::Differs
+    Next::Case(replay(&case[..size]))
+}
+
+fn one_if(yes: bool) -> u64
+    ensures { λ r. ⌜ (r ≡ cond yes 1 0) × (r ≤ 1) ⌝ }
+{
+    if yes { 1 } else { 0 }
+}
+
+fn print_line(count: u64, what: &[u8], differences: u64) {
+    io::print_decimal(STDOUT_FILENO, count);
+    io::write_all(STDOUT_FILENO, what);
+    io::print_decimal(STDOUT_FILENO, differences);
+    io::write_all(STDOUT_FILENO, b" differences\n");
 }
 
 fn replay_all(fd: i32) {
     let mut cases: u64 = 0;
     let mut differences: u64 = 0;
+    let mut accepted: u64 = 0;
+    let mut lost: u64 = 0;
     while cases < MOST {
-        let replayed = replay_next(fd);
-        match replayed {
-            Replayed::End => break,
-            Replayed::Agrees => {}
-            Replayed::Differs => differences = differences + 1,
-        }
+        let next = replay_next(fd);
+        let Next::Case(replayed) = next else {
+            break;
+        };
         cases = cases + 1;
+        differences = differences + one_if(!replayed.agrees);
+        accepted = accepted + one_if(replayed.accepted);
+        lost = lost + one_if(replayed.accepted && !replayed.returns);
     }
-    io::print_decimal(STDOUT_FILENO, cases);
-    io::write_all(STDOUT_FILENO, b" cases, ");
-    io::print_decimal(STDOUT_FILENO, differences);
-    io::write_all(STDOUT_FILENO, b" differences\n");
+    print_line(cases, b" cases, ", differences);
+    print_line(accepted, b" accepted cases put back, ", lost);
 }
 
 fn main() {

@@ -1,13 +1,19 @@
 // One recorded case (README.md of the data folder has the format): the run on its tables, beside the real parser's answer.
-ghost use Prim.Native.Nat.{_^_, _<_};
-use crate::bytes::behind;
+ghost use Prim.Native.Nat.{_^_, _≤_, _<_};
+ghost use lib.ListN.{length};
+ghost use Rattle.rules.specs.Sheet.{tablesOf};
+ghost use Rattle.rules.specs.Treelist.{mostNumbers};
+ghost use Rattle.sheets.proofs.Answers.{Told};
+use crate::back::texts_return;
 use crate::bytes::number;
-use crate::bytes::numbers;
 use crate::bytes::wide;
 use crate::compare::Compared;
 use crate::compare::all_from;
 use crate::compare::rows_from;
 use cartglaze::Answer;
+use cartglaze::Sections;
+use cartglaze::Sheet;
+use cartglaze::read;
 use cartglaze::run;
 use syntax::Limits;
 
@@ -74,53 +80,111 @@ fn is_recorded(case: &[u8], at: usize, tree: &[u32], dropped: &[u32], answer: An
     }
 }
 
-// Whether the run on these tables gives the answer that is recorded from `at` on.
-fn is_replayed(
+// What a replay says of a case.
+pub struct Replayed {
+    // Whether the run gave the answer that is recorded.
+    pub agrees: bool,
+    // Whether the run accepted, and whether then the token texts return.
+    pub accepted: bool,
+    pub returns: bool,
+}
+
+impl Replayed {
+    // A sheet has no more bytes, so that the texts of tokens that do not overlap have room.
+    const TEXTS: usize = Sections::MOST_BYTES;
+
+    // A case that cannot be replayed.
+    const NOT: Replayed = Replayed {
+        agrees: false,
+        accepted: false,
+        returns: false,
+    };
+}
+
+// An answer with its buffers beside the one that is recorded from `at` on; the texts of an accepted one are put back.
+fn judged(
     case: &[u8],
     at: usize,
     text: &[u8],
     tokens: &[u32],
-    shapes: &[u32],
-    states: &[u32],
-    tree: &mut [u32],
-    dropped: &mut [u32],
-) -> bool
+    tree: &[u32],
+    dropped: &[u32],
+    answer: Answer,
+) -> Replayed
     requires { ⌜ at < 2 ^ 36 ⌝ }
 {
-    let answer = run(text, tokens, shapes, states, tree, dropped);
-    is_recorded(case, at, tree, dropped, answer)
+    let agrees = is_recorded(case, at, tree, dropped, answer);
+    let Answer::Accepted(rows, drops) = answer else {
+        return Replayed {
+            agrees: agrees,
+            accepted: false,
+            returns: false,
+        };
+    };
+    let mut back = [0u8; Replayed::TEXTS];
+    let mut whole = [0u8; Replayed::TEXTS];
+    Replayed {
+        agrees: agrees,
+        accepted: true,
+        returns: texts_return(
+            text,
+            tokens,
+            tree,
+            rows,
+            dropped,
+            drops,
+            &mut back,
+            &mut whole,
+        ),
+    }
 }
 
-// The tables out of a recorded case, and buffers of the recorded room.
-pub fn agrees(case: &[u8]) -> bool {
-    let tokens_at = behind(case, 5);
-    let shapes_at = behind(case, tokens_at);
-    let states_at = behind(case, shapes_at);
-    let answer_at = behind(case, states_at);
-    if case.len() < answer_at {
-        return false;
+// The run on a sheet that was read, with a dropped buffer of a row for each token.
+fn run_sheet(
+    case: &[u8],
+    at: usize,
+    sheet: &[u8],
+    sections: Sections,
+    table: &[u32],
+    tree: &mut [u32],
+) -> Replayed
+    requires { ⌜ (at < 2 ^ 36) × (length (now table) ≤ mostNumbers) × Told (now sheet) (tablesOf (now sheet)) sections (now table) ⌝ }
+{
+    let mut dropped = [BEFORE; 8_192];
+    let text = &sheet[Sections::TEXT_BYTES..Sections::TEXT_BYTES + sections.text];
+    let shapes = sections.tokens;
+    let states = shapes + sections.shapes;
+    let end = states + sections.states;
+    let tokens = &table[..shapes];
+    let room = sections.tokens / Limits::TOKEN_WIDTH * Limits::DROPPED_WIDTH;
+    let lent = &mut dropped[..room];
+    let answer = run(
+        text,
+        tokens,
+        &table[shapes..states],
+        &table[states..end],
+        tree,
+        lent,
+    );
+    judged(case, at, text, tokens, tree, lent, answer)
+}
+
+// A recorded case: its sheet, and behind it the room that the tree had and the answer.
+pub fn replay(case: &[u8]) -> Replayed {
+    let end = 4 + number(case, 0);
+    if case.len() < end {
+        return Replayed::NOT;
     }
-    let room = number(case, answer_at);
-    if 16384 < room {
-        return false;
+    let sheet = &case[4..end];
+    let room = number(case, end);
+    if 16_384 < room {
+        return Replayed::NOT;
     }
-    let mut tokens = [0u32; 8192];
-    let mut shapes = [0u32; 8192];
-    let mut states = [0u32; 8192];
-    let mut tree = [BEFORE; 16384];
-    let mut dropped = [BEFORE; 8192];
-    let token_numbers = numbers(case, tokens_at, &mut tokens);
-    let shape_numbers = numbers(case, shapes_at, &mut shapes);
-    let state_numbers = numbers(case, states_at, &mut states);
-    let dropped_room = token_numbers / Limits::TOKEN_WIDTH * Limits::DROPPED_WIDTH;
-    is_replayed(
-        case,
-        answer_at + 4,
-        &case[9..tokens_at],
-        &tokens[..token_numbers],
-        &shapes[..shape_numbers],
-        &states[..state_numbers],
-        &mut tree[..room],
-        &mut dropped[..dropped_room],
-    )
+    let mut table = [0u32; Sections::MOST_NUMBERS];
+    let mut tree = [BEFORE; 16_384];
+    let found = read(sheet, &mut table);
+    let Sheet::Read(sections) = found else {
+        return Replayed::NOT;
+    };
+    run_sheet(case, end + 4, sheet, sections, &table, &mut tree[..room])
 }

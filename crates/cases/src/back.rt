@@ -1,0 +1,90 @@
+// What was dropped of a run, put back among its leaf texts where the dropped list says, beside the token texts joined in order.
+ghost use mathlib.Core.Path.{_≡_};
+ghost use mathlib.Core.Bool.{true};
+ghost use Prim.Native.Nat.{_≤_, _/_};
+ghost use lib.ListN.{length, take};
+ghost use Rattle.rules.specs.Limits.{droppedWidth};
+ghost use Rattle.rules.specs.Questions.{rowCount};
+ghost use Rattle.rules.specs.PutBack.{stored, putBack, treeRows, droppedRows, tokenTexts};
+ghost use Rattle.sheets.specs.Contract.{Wrote};
+use crate::texts::cell;
+use crate::texts::dropped_after;
+use crate::texts::joined;
+use crate::texts::part;
+use syntax::Limits;
+use syntax::Tag;
+
+// Before each leaf's text the texts of what was dropped there, and likewise behind the last leaf's.
+fn put_back(
+    out: &mut [u8],
+    text: &[u8],
+    tokens: &[u32],
+    tree: &[u32],
+    rows: usize,
+    dropped: &[u32],
+    drops: usize,
+) -> usize
+    requires { ⌜ (rows ≤ rowCount (now tree)) × (drops ≤ length (now dropped) / droppedWidth) ⌝ }
+    ensures { λ r. ⌜ Wrote (putBack (stored (now (text .entry)) (now (tokens .entry)) (treeRows rows (now (tree .entry))) (droppedRows drops (now (dropped .entry))))) (now (out .entry)) 0 (now (out .exit)) r ⌝ }
+{
+    let mut next = 0;
+    let mut leaves: usize = 0;
+    for row in 0..rows {
+        let from = row * Limits::TREE_WIDTH;
+        if tree[from] != Tag::LEAF {
+            continue;
+        }
+        let half = dropped_after(out, next, text, tokens, dropped, drops, leaves);
+        let start = cell(tree, from + 2);
+        let size = cell(tree, from + 3);
+        next = part(out, half, text, start, size);
+        leaves = leaves + 1;
+    }
+    dropped_after(out, next, text, tokens, dropped, drops, leaves)
+}
+
+// Whether so many first bytes are the same.
+fn same(one: &[u8], other: &[u8], size: usize) -> bool
+    requires { ⌜ (size ≤ length (now one)) × (size ≤ length (now other)) ⌝ }
+    ensures { λ r. ⌜ (r ≡ true → take size (now (one .entry)) ≡ take size (now (other .entry))) ⌝ }
+{
+    for i in 0..size {
+        if one[i] != other[i] {
+            return false;
+        }
+    }
+    true
+}
+
+// Whether the token texts return. No also where the rows are not in the buffers, or the texts have no room in the bytes lent for them.
+pub fn texts_return(
+    text: &[u8],
+    tokens: &[u32],
+    tree: &[u32],
+    rows: usize,
+    dropped: &[u32],
+    drops: usize,
+    back: &mut [u8],
+    whole: &mut [u8],
+) -> bool
+    ensures { λ r. ⌜ (r ≡ true → putBack (stored (now (text .entry)) (now (tokens .entry)) (treeRows rows (now (tree .entry))) (droppedRows drops (now (dropped .entry)))) ≡ tokenTexts (now (text .entry)) (now (tokens .entry))) ⌝ }
+{
+    if tree.len() / Limits::TREE_WIDTH < rows {
+        return false;
+    }
+    if dropped.len() / Limits::DROPPED_WIDTH < drops {
+        return false;
+    }
+    let size = put_back(back, text, tokens, tree, rows, dropped, drops);
+    let wanted = joined(whole, text, tokens);
+    if size != wanted {
+        return false;
+    }
+    if back.len() < size {
+        return false;
+    }
+    if whole.len() < size {
+        return false;
+    }
+    same(back, whole, size)
+}
