@@ -2,18 +2,19 @@
 
 use std::time::{Duration, Instant};
 
-/// The least times of some rivals: all are run once a round, so that a slow spell of the
+/// The least time of each rival: all are run once a round, so that a slow spell of the
 /// machine meets them alike, and there are as many rounds as go into `span` for each.
-pub(crate) fn least<const N: usize>(
+pub(crate) fn least<R: Copy, const N: usize>(
     span: Duration,
-    mut rivals: [&mut dyn FnMut() -> Duration; N],
+    rivals: [R; N],
+    mut once: impl FnMut(R) -> Duration,
 ) -> [Duration; N] {
     let begun = Instant::now();
     let mut least = [Duration::MAX; N];
     let mut rounds = 0;
     while rounds < FEWEST || begun.elapsed() < span * N as u32 {
-        for (least, rival) in least.iter_mut().zip(&mut rivals) {
-            *least = rival().min(*least);
+        for (least, rival) in least.iter_mut().zip(rivals) {
+            *least = once(rival).min(*least);
         }
         rounds += 1;
     }

@@ -2,13 +2,14 @@
 //!
 //! `bench` prints a table with nanoseconds a token and then the ratios: of each workload
 //! the worst over its sizes, and of the binder port/vec at 10,000 tokens. `bench repeat
-//! WORKLOAD TOKENS TIMES` runs the port alone, for a profile.
+//! RIVAL WORKLOAD TOKENS TIMES` runs one rival alone, for a profile. `bench stack` prints how
+//! much stack the port needs.
 
 use std::process::ExitCode;
 use std::time::Duration;
 
 use answers::with_deep_stack;
-use bench::{Measured, Prepared, Workload, BINDER, WORKLOADS};
+use bench::{least_stack, read_on, Measured, Prepared, Rival, Workload, BINDER, WORKLOADS};
 
 fn main() -> ExitCode {
     let words: Vec<String> = std::env::args().skip(1).collect();
@@ -17,20 +18,34 @@ fn main() -> ExitCode {
         match words[..] {
             [] => all(Duration::from_millis(300)),
             ["quick"] => all(Duration::from_millis(30)),
-            ["repeat", name, tokens, times] => repeat(name, tokens, times),
+            ["stack"] => stack(),
+            ["stack", bytes] => bytes.parse().map_or(ExitCode::FAILURE, |bytes| {
+                read_on(bytes);
+                ExitCode::SUCCESS
+            }),
+            ["repeat", rival, name, tokens, times] => repeat(rival, name, tokens, times),
             _ => {
-                eprintln!("usage: bench [quick | repeat WORKLOAD TOKENS TIMES]");
+                eprintln!("usage: bench [quick | stack | repeat RIVAL WORKLOAD TOKENS TIMES]");
                 ExitCode::FAILURE
             }
         }
     })
 }
 
+fn stack() -> ExitCode {
+    let kib = least_stack() / 1024;
+    println!("stack for 128 open nodes: {kib} KiB, of which a thread's own start takes a part");
+    ExitCode::SUCCESS
+}
+
 /// The size at which the binder is held against the Vec.
 const BINDER_TOKENS: usize = 10_000;
 
 fn all(span: Duration) -> ExitCode {
-    println!("nanoseconds a token, the least of many rounds");
+    println!(
+        "nanoseconds a token, the least of many rounds: the port; mitex's parser on tokens made"
+    );
+    println!("before; the same with its lexer; that lexer alone; the same rows put into a Vec");
     println!("workload   {}", Measured::HEADING);
     let measured: Vec<_> = WORKLOADS.iter().map(|w| (w, sizes(w, span))).collect();
     for (workload, measured) in &measured {
@@ -60,11 +75,15 @@ fn sizes(workload: &Workload, span: Duration) -> Vec<Measured> {
     workload.sizes.iter().map(measure).collect()
 }
 
-fn repeat(name: &str, tokens: &str, times: &str) -> ExitCode {
+fn repeat(rival: &str, name: &str, tokens: &str, times: &str) -> ExitCode {
+    let rival = Rival::ALL.iter().find(|(called, _)| *called == rival);
     let workload = WORKLOADS.iter().find(|workload| workload.name == name);
-    match (workload, tokens.parse(), times.parse()) {
-        (Some(workload), Ok(tokens), Ok(times)) => {
-            Prepared::new(workload, tokens).repeat(times);
+    match (rival, workload, tokens.parse(), times.parse()) {
+        (Some(&(_, rival)), Some(workload), Ok(tokens), Ok(times)) => {
+            let mut prepared = Prepared::new(workload, tokens);
+            (0..times).for_each(|_| {
+                prepared.once(rival);
+            });
             ExitCode::SUCCESS
         }
         _ => ExitCode::FAILURE,
