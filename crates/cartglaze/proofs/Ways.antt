@@ -1,29 +1,25 @@
 -- The run, case by case: refused by a check, accepted, refused while reading. Rows, and behind them what a buffer held, are the whole buffer. Assumes nothing.
-use mathlib.Core.Path.{_≡_, refl, sym, ap, _∙_}
-use mathlib.Core.List.{List, _++_}
-use mathlib.Core.Option.{none}
+use mathlib.Core.Path.{_≡_, ap, _∙_}
+use mathlib.Core.List.{List}
 use Prim.Native.Nat.{ℕ, _*_, _/_, _≤_}
 use native.Mathlib.Omega.{arith}
 use lib.ListN.{length, take, drop, replicate, take-append-drop}
 use lib.Seq.{length-take-le}
-use Rattle.rules.specs.Checks.{Tables, checks, sourceOf}
-use Rattle.rules.specs.Flat.{flat, empty}
+use Rattle.rules.specs.Checks.{Tables, checks}
 use Rattle.rules.specs.Limits.{treeWidth, droppedWidth}
-use Rattle.rules.specs.Outcome as outcome
-use Rattle.rules.specs.Reading as reading
-use Rattle.rules.specs.Run.{Ran, over, afterReading, run}
+use Rattle.rules.specs.Run.{over, afterReading, run}
 use Rattle.checks.specs.Checked.{checkedOf}
 use Rattle.checks.specs.declared.order.Checked.{Checked}
 use Rattle.checks.specs.declared.order.Checked.the-variants as checked
 use Rattle.checks.proofs.Answers.{fine, sound}
-use Rattle.routines.specs.Stands.{Buffers, posOf, outOf}
+use Rattle.routines.specs.Stands.{Buffers, outOf}
 use Rattle.routines.specs.declared.state.Parser.{Parser}
 use Rattle.routines.specs.declared.state.Step.{Step}
 use Rattle.routines.specs.declared.state.Step.the-variants as step
 use Rattle.parser.specs.Member.{buffers}
 use Rattle.parser.specs.Root.{Readable, Written, Parsed}
 use Rattle.cartglaze.specs.Answers.{ranOf}
-use Rattle.cartglaze.specs.declared.whole.Answer.the-variants.{Accepted, Refused}
+use Rattle.sheets.specs.declared.answer.Answer.the-variants.{Accepted, Refused}
 
 -- the first numbers of a buffer, with what stood behind them before, are the buffer
 over-is : (n : ℕ) (before after : List ℕ) → n ≤ length after → drop n after ≡ drop n before → over (take n after) before ≡ after
@@ -53,7 +49,9 @@ module _ (t : Tables) (tree dropped : List ℕ) where
       pub accepted : {q : Parser} → r ≡ step.Went q → run t tree dropped ≡ ranOf (Accepted (q .builder .rows) (q .dropped)) (v .tree) (v .dropped)
       accepted {q} went =
           let written : Written (buffers tree dropped) v q = rw went at (parsed .gone) in
-          reads ∙ rw (went, count-is (q .dropped) (v .dropped) (written .dropped), over-is (q .builder .rows * treeWidth) tree (v .tree) (written .rows) (written .tree-rest), over-is (q .dropped * droppedWidth) dropped (v .dropped) (written .dropped) (written .dropped-rest))
+          let rows = over-is (q .builder .rows * treeWidth) tree (v .tree) (written .rows) (written .tree-rest) in
+          let notes = over-is (q .dropped * droppedWidth) dropped (v .dropped) (written .dropped) (written .dropped-rest) in
+          reads ∙ rw (went, count-is (q .dropped) (v .dropped) (written .dropped), rows, notes)
 
       -- 5 to 8
       pub refused-while : {number place : ℕ} {x y : List ℕ} → r ≡ step.Refused number place → length (v .tree) ≡ length tree → length (v .dropped) ≡ length dropped

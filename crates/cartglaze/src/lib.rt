@@ -1,4 +1,4 @@
-// The public face: the run, and the questions about the rows that it gives.
+// The public face: the run, the questions about the rows that it gives, sheets and the listing of an answer.
 mod clear;
 mod whole;
 
@@ -9,5 +9,10 @@ pub use questions::is_leaf;
 pub use questions::is_valid;
 pub use questions::leaf_range;
 pub use questions::leaf_text;
-pub use whole::Answer;
+pub use sheets::Answer;
+pub use sheets::Listed;
+pub use sheets::Sections;
+pub use sheets::Sheet;
+pub use sheets::list;
+pub use sheets::read;
 pub use whole::run;

@@ -8,12 +8,7 @@ use checks::Checked;
 use checks::check;
 use parser::parse;
 use routines::Step;
-
-// Accepted with the counts of tree rows and of dropped rows, or refused with a number and a place.
-pub enum Answer {
-    Accepted(usize, usize),
-    Refused(u32, usize),
-}
+use sheets::Answer;
 
 // Text, tokens, shapes and states in; the tree's rows and the dropped rows into the lent buffers.
 // Refusals 1 to 4 write nothing, 5 to 8 leave zeros; behind the rows of an accepted run all is as it was.

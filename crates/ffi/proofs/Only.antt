@@ -3,7 +3,6 @@ use mathlib.Core.Path.{_≡_, refl, sym, ap, _∙_}
 use mathlib.Core.Bool.{Bool, true, false}
 use mathlib.Core.List.{List}
 use Prim.Native.Nat.{ℕ}
-use native.Mathlib.Omega.{arith}
 use Rattle.rules.specs.Checks.{Tables}
 use Rattle.rules.specs.Run.{Answer, accepted, refusedAt, run}
 use Rattle.ffi.specs.Exported.{answerFrom, ranFrom}

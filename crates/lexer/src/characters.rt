@@ -1,5 +1,6 @@
 // The characters of a text: UTF-8 by the grammar of RFC 3629, section 4.
 ghost use mathlib.Core.Path.{_≡_};
+ghost use mathlib.Core.Bool.{false};
 ghost use mathlib.Core.List.{[], _∷_};
 ghost use Prim.Native.Nat.{_≤_};
 ghost use lib.ListN.{length, drop};
@@ -53,13 +54,12 @@ fn four(bytes: &[u8], low: u8, high: u8, from: u8, to: u8) -> bool
     false
 }
 
-// The length of the first character, or 0 where the bytes begin with none. The lines are the grammar's alternatives, in its order.
-pub fn char_len(bytes: &[u8]) -> usize
+// The length of the first character where that is not one of a single byte, or 0 where the bytes begin with none. The lines are the grammar's
+// alternatives, in its order.
+fn wide_len(bytes: &[u8]) -> usize
+    requires { ⌜ begins ((0x00, 0x7F) ∷ []) (now bytes) ≡ false ⌝ }
     ensures { λ r. ⌜ r ≡ charLength (now (bytes .entry)) ⌝ }
 {
-    if byte_in(bytes, 0, 0x00, 0x7F) {
-        return 1;
-    }
     if two(bytes, 0xC2, 0xDF, TAIL_LOW, TAIL_HIGH) {
         return 2;
     }
@@ -89,6 +89,16 @@ pub fn char_len(bytes: &[u8]) -> usize
         return 4;
     }
     0
+}
+
+// The length of the first character, or 0 where the bytes begin with none. Most have a single byte, so that one is asked here.
+pub fn char_len(bytes: &[u8]) -> usize
+    ensures { λ r. ⌜ r ≡ charLength (now (bytes .entry)) ⌝ }
+{
+    if byte_in(bytes, 0, 0x00, 0x7F) {
+        return 1;
+    }
+    wide_len(bytes)
 }
 
 // Whether the bytes are characters one after the other. Each is looked for in a part that starts where the one before it ends.

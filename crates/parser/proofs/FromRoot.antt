@@ -1,14 +1,14 @@
 -- The root's walk: it begins where no node is open, so its first step is taken by itself; the others are a routine's. Assumes nothing.
 use mathlib.Core.Path.{_≡_, refl, ap, _∙_}
 use mathlib.Core.List.{List, [], _∷_}
-use Prim.Native.Nat.{ℕ, _+_, _*_, _≤_}
+use Prim.Native.Nat.{ℕ, _+_, _≤_}
 use native.Mathlib.Omega.{arith}
 use lib.ListN.{length}
 use Rattle.rules.specs.Checks.{Tables, sourceOf}
 use Rattle.rules.specs.Cursor.{left}
 use Rattle.rules.specs.Flat.{flat, empty}
 use Rattle.rules.specs.Limits.{nodes}
-use Rattle.rules.specs.Outcome.{Out, went, refused, bind}
+use Rattle.rules.specs.Outcome.{Out, went}
 use Rattle.rules.specs.Position as position
 use Rattle.rules.specs.Position.{steps}
 use Rattle.rules.specs.Reading as spec
@@ -16,7 +16,7 @@ use Rattle.rules.specs.Scope as scopes
 use Rattle.rules.specs.SyntaxKind as kinds
 use Rattle.syntax.specs.declared.parse_scope.ParseScope.{ParseScope}
 use Rattle.lexer.proofs.Laws.{start-fine}
-use Rattle.routines.specs.Contract.{Steady, Begun, Ended, Gone, Opens}
+use Rattle.routines.specs.Contract.{Steady, Begun, Ended, Opens}
 use Rattle.routines.specs.Stands.{Buffers, Here, posOf, outOf}
 use Rattle.routines.specs.declared.state.Parser.{Parser}
 use Rattle.routines.specs.declared.state.Step.{Step}

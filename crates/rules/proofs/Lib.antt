@@ -1,5 +1,6 @@
 -- Theorems about the rules alone, and the laws by which other crates use their definitions.
 pub mod Alike
+pub mod Asked
 pub mod Characters
 pub mod Checks
 pub mod Choices
@@ -11,6 +12,7 @@ pub mod Handed
 pub mod HandedItems
 pub mod HandedRows
 pub mod Levels
+pub mod Listing
 pub mod NothingLost
 pub mod Noting
 pub mod OnTree
@@ -22,6 +24,8 @@ pub mod Reasons
 pub mod Related
 pub mod Render
 pub mod Room
+pub mod Sheet
+pub mod SheetBytes
 pub mod Sim
 pub mod Simulation
 pub mod Table

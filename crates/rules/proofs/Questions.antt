@@ -19,10 +19,10 @@ use Rattle.rules.proofs.Characters.{either}
 never : {A : Type 0} {a : A} → none ≡ some a → ⊥
 never e = let z : _≡_ {A = ℕ} 0 1 = cc in omega arith
 
-one-more : (rows at : ℕ) → at < rows → rows - at ≡ suc (rows - (at + 1))
+pub one-more : (rows at : ℕ) → at < rows → rows - at ≡ suc (rows - (at + 1))
 one-more rows at there = omega arith
 
-no-more : (rows at : ℕ) → rows ≤ at → rows - at ≡ zero
+pub no-more : (rows at : ℕ) → rows ≤ at → rows - at ≡ zero
 no-more rows at end = omega arith
 
 -- ---- rows and leaves

@@ -24,5 +24,9 @@ pub mod PutBack
 pub mod Placed
 pub mod Exactly
 pub mod DroppedCases
+pub mod Sheet
+pub mod Listing
+pub mod Treelist
+pub mod SheetCases
 pub mod Cases
 pub mod PutBackCases

@@ -24,17 +24,18 @@ pub enum ParseScope {
 }
 
 impl ParseScope {
-    // For each scope a line and in it for each kind of token a mark, `x` where that kind stops a list of that scope:
+    // For each scope a line and in it for each kind of token a digit, the last one for kind 0: 1 where that kind stops a list of that scope.
     // `}` is kind 6, `]` 7, `)` 8, Dollar 22, EndEnvironment 28, EndMath 30, Right 39.
-    const STOPS: [u8; 320] = *b"\
-        ........................................\
-        ......x...............x.....x..........x\
-        ......x.....................x.x........x\
-        ......x.....................x...........\
-        ......x.....................x..........x\
-        ......x.................................\
-        ......xx....................x..........x\
-        ......x.x...................x..........x";
+    const STOPS: [u64; 8] = [
+        0b0000000000000000000000000000000000000000, // Root
+        0b1000000000010000010000000000000001000000, // DollarFormula
+        0b1000000001010000000000000000000001000000, // CmdFormula
+        0b0000000000010000000000000000000001000000, // Environment
+        0b1000000000010000000000000000000001000000, // LR
+        0b0000000000000000000000000000000001000000, // CurlyItem
+        0b1000000000010000000000000000000011000000, // BracketItem
+        0b1000000000010000000000000000000101000000, // ParenItem
+    ];
 
     // The scope's line in the table.
     pub fn number(self) -> usize
@@ -59,7 +60,7 @@ impl ParseScope {
         let column = kind as usize;
         if column < Limits::KINDS {
             let row = self.number();
-            Self::STOPS[row * Limits::KINDS + column] == b'x'
+            (Self::STOPS[row] >> column) % 2 == 1
         } else {
             false
         }

@@ -3,6 +3,7 @@ ghost use mathlib.Core.Path.{_≡_};
 ghost use Rattle.rules.specs.Kinds.{leafKind};
 ghost use Rattle.syntax.specs.Numbers.{syntaxKinds};
 use crate::limits::Limits;
+use crate::token::Token;
 
 pub struct SyntaxKind;
 
@@ -153,59 +154,48 @@ impl SyntaxKind {
         Self::ALL
     }
 
-    // For each kind of token, which stands beside it, the kind of the leaf that it becomes.
-    const OF_TOKEN: [u32; 40] = [
-        Self::TOKEN_LINE_BREAK, // LINE_BREAK
-        Self::TOKEN_WHITE_SPACE, // WHITESPACE
-        Self::TOKEN_COMMENT, // LINE_COMMENT
-        Self::TOKEN_LBRACE, // LEFT_CURLY
-        Self::TOKEN_LBRACKET, // LEFT_BRACKET
-        Self::TOKEN_LPAREN, // LEFT_PAREN
-        Self::TOKEN_RBRACE, // RIGHT_CURLY
-        Self::TOKEN_RBRACKET, // RIGHT_BRACKET
-        Self::TOKEN_RPAREN, // RIGHT_PAREN
-        Self::TOKEN_COMMA, // COMMA
-        Self::TOKEN_TILDE, // TILDE
-        Self::TOKEN_SLASH, // SLASH
-        Self::TOKEN_AMPERSAND, // AMPERSAND
-        Self::TOKEN_CARET, // CARET
-        Self::TOKEN_APOSTROPHE, // APOSTROPHE
-        Self::TOKEN_DITTO, // DITTO
-        Self::TOKEN_SEMICOLON, // SEMICOLON
-        Self::TOKEN_HASH, // HASH
-        Self::TOKEN_ASTERISK, // ASTERISK
-        Self::TOKEN_AT_SIGN, // AT_SIGN
-        Self::TOKEN_UNDERSCORE, // UNDERSCORE
-        Self::TOKEN_WORD, // WORD
-        Self::TOKEN_DOLLAR, // DOLLAR
-        Self::ITEM_NEW_LINE, // NEW_LINE
-        Self::TOKEN_ERROR, // ERROR
-        Self::TOKEN_WORD, // MACRO_ARG
-        Self::CLAUSE_COMMAND_NAME, // GENERIC
-        Self::TOKEN_COMMAND_SYM, // BEGIN_ENVIRONMENT
-        Self::TOKEN_COMMAND_SYM, // END_ENVIRONMENT
-        Self::TOKEN_BEGIN_MATH, // BEGIN_MATH
-        Self::TOKEN_END_MATH, // END_MATH
-        Self::TOKEN_ERROR, // ERROR_BEGIN_ENVIRONMENT
-        Self::TOKEN_ERROR, // ERROR_END_ENVIRONMENT
-        Self::CLAUSE_COMMAND_NAME, // IF_FALSE
-        Self::CLAUSE_COMMAND_NAME, // IF_TYPST
-        Self::CLAUSE_COMMAND_NAME, // IF
-        Self::CLAUSE_COMMAND_NAME, // ELSE
-        Self::CLAUSE_COMMAND_NAME, // END_IF
-        Self::CLAUSE_COMMAND_NAME, // LEFT
-        Self::CLAUSE_COMMAND_NAME, // RIGHT
-    ];
-
-    // `From<Token>`: the kind of the leaf that a token becomes. A number over 39 is no token's kind and gives TOKEN_ERROR.
+    // `From<Token>`, arm by arm: the kind of the leaf that a token becomes; the last arm is a command's name. A number over 39 is no token's kind and gives
+    // TOKEN_ERROR.
     pub fn from_token(kind: u32) -> u32
         ensures { λ r. ⌜ r ≡ leafKind kind ⌝ }
     {
-        let place = kind as usize;
-        if place < Limits::KINDS {
-            Self::OF_TOKEN[place]
-        } else {
-            Self::TOKEN_ERROR
+        if Limits::KINDS <= kind as usize {
+            return Self::TOKEN_ERROR;
+        }
+        match kind {
+            Token::LINE_BREAK => Self::TOKEN_LINE_BREAK,
+            Token::WHITESPACE => Self::TOKEN_WHITE_SPACE,
+            Token::LINE_COMMENT => Self::TOKEN_COMMENT,
+            Token::LEFT_CURLY => Self::TOKEN_LBRACE,
+            Token::LEFT_BRACKET => Self::TOKEN_LBRACKET,
+            Token::LEFT_PAREN => Self::TOKEN_LPAREN,
+            Token::RIGHT_CURLY => Self::TOKEN_RBRACE,
+            Token::RIGHT_BRACKET => Self::TOKEN_RBRACKET,
+            Token::RIGHT_PAREN => Self::TOKEN_RPAREN,
+            Token::COMMA => Self::TOKEN_COMMA,
+            Token::TILDE => Self::TOKEN_TILDE,
+            Token::SLASH => Self::TOKEN_SLASH,
+            Token::AMPERSAND => Self::TOKEN_AMPERSAND,
+            Token::CARET => Self::TOKEN_CARET,
+            Token::APOSTROPHE => Self::TOKEN_APOSTROPHE,
+            Token::DITTO => Self::TOKEN_DITTO,
+            Token::SEMICOLON => Self::TOKEN_SEMICOLON,
+            Token::HASH => Self::TOKEN_HASH,
+            Token::ASTERISK => Self::TOKEN_ASTERISK,
+            Token::AT_SIGN => Self::TOKEN_AT_SIGN,
+            Token::UNDERSCORE => Self::TOKEN_UNDERSCORE,
+            Token::WORD => Self::TOKEN_WORD,
+            Token::DOLLAR => Self::TOKEN_DOLLAR,
+            Token::NEW_LINE => Self::ITEM_NEW_LINE,
+            Token::ERROR => Self::TOKEN_ERROR,
+            Token::MACRO_ARG => Self::TOKEN_WORD,
+            Token::BEGIN_ENVIRONMENT => Self::TOKEN_COMMAND_SYM,
+            Token::END_ENVIRONMENT => Self::TOKEN_COMMAND_SYM,
+            Token::BEGIN_MATH => Self::TOKEN_BEGIN_MATH,
+            Token::END_MATH => Self::TOKEN_END_MATH,
+            Token::ERROR_BEGIN_ENVIRONMENT => Self::TOKEN_ERROR,
+            Token::ERROR_END_ENVIRONMENT => Self::TOKEN_ERROR,
+            _ => Self::CLAUSE_COMMAND_NAME,
         }
     }
 }

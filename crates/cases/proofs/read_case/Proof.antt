@@ -1,11 +1,9 @@
 -- `read_case` is safe: what was read lies in the buffer's first bytes. Assumes nothing.
-use mathlib.Core.Path.{_≡_, _∙_}
 use mathlib.Core.List.{List, _++_}
 use Prim.Native.Nat.{ℕ, _≤_}
 use native.Mathlib.Omega.{arith}
 use borrow.Author.Needs.{needs}
-use lib.ListN.{length, take, drop, length-append}
-use Rattle.io.specs.Counts.{Counts}
+use lib.ListN.{length, drop, length-append}
 use Rattle.cases.proofs.Fronts.{front, counts}
 use Rattle.cases.proofs.read_case.Statement.{statement}
 use Rattle.cases.proofs.read_case.Tie as tie

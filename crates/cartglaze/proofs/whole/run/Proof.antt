@@ -1,5 +1,4 @@
 -- `whole::run` meets its contract: each way out is one of the run's cases. Assumes nothing.
-use mathlib.Core.Path.{_∙_}
 use borrow.Author.Needs.{needs}
 use Rattle.rules.specs.Checks.{Tables}
 use Rattle.parser.specs.Member.{tables}

@@ -1,5 +1,5 @@
 -- `compare::all_from` is safe and ends: what is left of the buffer falls. Assumes nothing.
-use Prim.Native.Nat.{ℕ, _-_}
+use Prim.Native.Nat.{_-_}
 use borrow.Author.Needs.{needs}
 use lib.ListN.{length}
 use Rattle.cases.proofs.compare.all_from.Statement.{statement}

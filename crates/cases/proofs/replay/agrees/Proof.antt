@@ -1,5 +1,4 @@
 -- `replay::agrees` is safe: each table lies in the case before the next, and both buffers have the room. Assumes nothing.
-use native.Mathlib.Omega.{arith}
 use borrow.Author.Needs.{needs}
 use Rattle.cases.proofs.Fronts.{front}
 use Rattle.cases.proofs.replay.agrees.Statement.{statement}

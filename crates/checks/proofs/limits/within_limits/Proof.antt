@@ -3,7 +3,7 @@ use borrow.Author.Needs.{needs}
 use borrow.Author.Tests.{le-leb, lt-leb}
 use mathlib.Core.Path.{sym, _∙_}
 use Rattle.rules.specs.Checks.{withinLimits}
-use Rattle.checks.proofs.Asked.{missed, met}
+use Rattle.rules.proofs.Asked.{missed, met}
 use Rattle.checks.proofs.limits.within_limits.Statement.{statement}
 use Rattle.checks.proofs.limits.within_limits.Tie as tie
 

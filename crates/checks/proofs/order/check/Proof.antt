@@ -7,7 +7,7 @@ use mathlib.Core.Option.{Option, none}
 use mathlib.Core.Path.{_≡_, _∙_}
 use Rattle.rules.specs.Checks.{Refusal, Tables, at, checks, firstBad, shapeCount, shapeOrStateRight, stateCount, tokenRight}
 use Rattle.rules.specs.Tables.{tokenCount}
-use Rattle.checks.proofs.Asked.{missed, met}
+use Rattle.rules.proofs.Asked.{missed, met}
 use Rattle.checks.proofs.order.check.Statement.{statement}
 use Rattle.checks.proofs.order.check.Tie as tie
 

@@ -6,7 +6,7 @@ use lib.ListN.{length}
 use Rattle.rules.specs.Checks.{shapeOrStateRight}
 use Rattle.rules.specs.Limits.{shapeWidth, stateWidth}
 use Rattle.rules.proofs.Checks.{Passed, none-passed, passes, found, all-passed}
-use Rattle.checks.proofs.Asked.{missed, met}
+use Rattle.rules.proofs.Asked.{missed, met}
 use Rattle.checks.proofs.shapes.first_bad_shape_or_state.Statement.{statement}
 use Rattle.checks.proofs.shapes.first_bad_shape_or_state.Tie as tie
 

@@ -2,7 +2,7 @@
 use borrow.Author.Needs.{needs}
 use native.Mathlib.Nat.{add-zero}
 use Rattle.rules.specs.Checks.{stateRight}
-use Rattle.checks.proofs.Asked.{missed, met}
+use Rattle.rules.proofs.Asked.{missed, met}
 use Rattle.checks.proofs.shapes.state_right.Statement.{statement}
 use Rattle.checks.proofs.shapes.state_right.Tie as tie
 

@@ -3,7 +3,7 @@ use borrow.Author.Tests.{le-leb, lt-leb}
 use mathlib.Core.List.{[], _∷_}
 use Rattle.rules.specs.Checks.{valueRight}
 use Rattle.rules.specs.Matcher.{formFixed, formRange, formGlob}
-use Rattle.items.proofs.Arms.{no-key}
+use Rattle.syntax.proofs.Arms.{no-key}
 use Rattle.checks.proofs.shapes.value_right.Statement.{statement}
 use Rattle.checks.proofs.shapes.value_right.Tie as tie
 

@@ -5,7 +5,7 @@ use borrow.Author.Needs.{needs}
 use Rattle.rules.specs.Checks.{tokenRight}
 use Rattle.rules.specs.Tables.{tokenCount}
 use Rattle.rules.proofs.Checks.{Passed, none-passed, passes, found, all-passed}
-use Rattle.checks.proofs.Asked.{missed, met}
+use Rattle.rules.proofs.Asked.{missed, met}
 use Rattle.checks.proofs.tokens.first_bad_token.Statement.{statement}
 use Rattle.checks.proofs.tokens.first_bad_token.Tie as tie
 

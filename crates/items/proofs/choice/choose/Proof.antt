@@ -10,7 +10,7 @@ use Rattle.rules.specs.Matcher.{term, tryMatch}
 use Rattle.rules.specs.Token
 use Rattle.arg_match.specs.Answers.{matcherOf}
 use Rattle.syntax.specs.ParseScope.{scopeOf}
-use Rattle.items.proofs.Arms.{no-key}
+use Rattle.syntax.proofs.Arms.{no-key}
 use Rattle.items.proofs.choice.choose.Statement.{statement}
 use Rattle.items.proofs.choice.choose.Tie as tie
 

@@ -2,7 +2,7 @@
 use mathlib.Core.List.{[], _∷_}
 use mathlib.Core.Logic.{⊎-elim}
 use Rattle.rules.specs.Token
-use Rattle.items.proofs.Arms.{no-key}
+use Rattle.syntax.proofs.Arms.{no-key}
 use Rattle.items.proofs.item.attachable_token.Statement.{statement}
 use Rattle.items.proofs.item.attachable_token.Tie as tie
 

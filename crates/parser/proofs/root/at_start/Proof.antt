@@ -1,7 +1,6 @@
 -- `root::at_start` meets its contract: an empty builder has no number but 0. Assumes nothing.
-use mathlib.Core.Path.{_≡_, refl, ap}
+use mathlib.Core.Path.{_≡_, ap}
 use mathlib.Core.List.{[]}
-use Prim.Native.Nat.{ℕ}
 use borrow.Author.Needs.{needs}
 use Rattle.rules.specs.Cursor.{atStart}
 use Rattle.rules.specs.Flat as flat
@@ -9,10 +8,6 @@ use Rattle.builder.specs.Stands.{rowsOf}
 use Rattle.builder.specs.declared.GreenNodeBuilder.{GreenNodeBuilder}
 use Rattle.lexer.specs.Reading.{cursorOf}
 use Rattle.lexer.specs.declared.cursor.Lexer.{Lexer}
-use Rattle.syntax.specs.declared.parse_scope.ParseScope.the-variants.{Root}
-use Rattle.routines.specs.declared.state.Mark.the-variants.{Nothing}
-use Rattle.routines.specs.declared.state.Parser.{Parser}
-use Rattle.parser.specs.Root.{atRoot}
 use Rattle.parser.proofs.root.at_start.Statement.{statement}
 use Rattle.parser.proofs.root.at_start.Tie as tie
 

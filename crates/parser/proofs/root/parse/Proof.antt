@@ -1,6 +1,6 @@
 -- `root::parse` meets its contract: by the root's walk, with the state before the first token. Assumes nothing.
-use mathlib.Core.Path.{_≡_, refl, _∙_}
-use mathlib.Core.List.{List, [], _∷_}
+use mathlib.Core.Path.{_∙_}
+use mathlib.Core.List.{List}
 use Prim.Native.Nat.{ℕ}
 use native.Mathlib.Omega.{arith}
 use borrow.Author.Needs.{needs}
@@ -11,7 +11,7 @@ use Rattle.rules.specs.Position as position
 use Rattle.rules.specs.Reading as spec
 use Rattle.rules.specs.SyntaxKind as kinds
 use Rattle.syntax.specs.declared.parse_scope.ParseScope.the-variants.{Root}
-use Rattle.routines.specs.Contract.{Opens, Closes, Steady}
+use Rattle.routines.specs.Contract.{Opens, Steady}
 use Rattle.routines.specs.Stands.{Buffers}
 use Rattle.routines.specs.declared.state.Parser.{Parser}
 use Rattle.routines.proofs.Walk.{line, Walk, passes, closes}

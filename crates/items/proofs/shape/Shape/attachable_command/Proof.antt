@@ -2,7 +2,7 @@
 use mathlib.Core.List.{[], _∷_}
 use mathlib.Core.Logic.{⊎-elim}
 use Rattle.rules.specs.Matcher.{formGreedy, formInfixGreedy, formLeft1}
-use Rattle.items.proofs.Arms.{no-key}
+use Rattle.syntax.proofs.Arms.{no-key}
 use Rattle.items.proofs.shape.Shape.attachable_command.Statement.{statement}
 use Rattle.items.proofs.shape.Shape.attachable_command.Tie as tie
 

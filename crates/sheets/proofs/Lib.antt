@@ -1,0 +1,6 @@
+-- The laws that the proofs of the sheets cite.
+pub mod Answers
+pub mod Numbers
+pub mod Reading
+pub mod Twice
+pub mod Writing

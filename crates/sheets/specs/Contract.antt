@@ -1,0 +1,82 @@
+-- What the contracts say of lent buffers.
+use Prim.Native.Nat.{ℕ, _+_, _-_, _/_, _^_, _<_, min}
+use mathlib.Core.Bool.{cond}
+use mathlib.Core.List.{List, _++_}
+use mathlib.Core.Option.{Option, none, some}
+use mathlib.Core.Path.{_≡_}
+use lib.Dec.{leb}
+use lib.ListN.{length}
+use lib.Seq.{sets}
+use Rattle.rules.specs.Checks.{Tables}
+use Rattle.rules.specs.Run.{over}
+use Rattle.rules.specs.Sheet.{numberBytes, numberAt, textAt, tokensAt, shapesAt, statesAt, endOf}
+use Rattle.sheets.specs.declared.listing.Listed.{Listed}
+use Rattle.sheets.specs.declared.listing.Listed.the-variants as listed
+use Rattle.sheets.specs.declared.sections.Places.{Places}
+use Rattle.sheets.specs.declared.sections.Sections.{Sections}
+use Rattle.sheets.specs.declared.sheet.Sheet.{Sheet}
+use Rattle.sheets.specs.declared.sheet.Sheet.the-variants as sheet
+
+-- ---- reading
+
+-- the places of a sheet's lengths; no sum of them passes 40 bits
+pub record Placed (bytes : List ℕ) (p : Places) : Type 0 where
+  pub tokens : p .tokens ≡ tokensAt bytes
+  pub shapes : p .shapes ≡ shapesAt bytes
+  pub states : p .states ≡ statesAt bytes
+  pub end : p .end ≡ endOf bytes (statesAt bytes)
+  pub tokens-low : p .tokens < 2 ^ 40
+  pub shapes-low : p .shapes < 2 ^ 40
+  pub states-low : p .states < 2 ^ 40
+
+-- how much the sections of a sheet claim to have
+pub record Counted (bytes : List ℕ) (s : Sections) : Type 0 where
+  pub text : s .text ≡ numberAt bytes textAt
+  pub tokens : s .tokens ≡ numberAt bytes (tokensAt bytes) / numberBytes
+  pub shapes : s .shapes ≡ numberAt bytes (shapesAt bytes) / numberBytes
+  pub states : s .states ≡ numberAt bytes (statesAt bytes) / numberBytes
+  pub tokens-low : s .tokens < 2 ^ 30
+  pub shapes-low : s .shapes < 2 ^ 30
+  pub states-low : s .states < 2 ^ 30
+
+-- the numbers of all tables, one behind the other, and how many each section has
+abbrev pub numbersOf : Tables → List ℕ
+numbersOf t = t .tokens ++ (t .shapes ++ t .states)
+
+abbrev pub sectionsOf : Tables → Sections
+sectionsOf t = record { text = length (t .text); tokens = length (t .tokens); shapes = length (t .shapes); states = length (t .states) }
+
+-- the answer for a sheet of these tables, or of none, when so many numbers are lent; and what the numbers are afterwards
+abbrev pub answerFor : Option Tables → ℕ → Sheet
+answerFor none room = sheet.Refused
+answerFor (some t) room = cond (leb (length (numbersOf t)) room) (sheet.Read (sectionsOf t)) (sheet.NoRoom (length (numbersOf t)))
+
+abbrev pub numbersAfter : Option Tables → List ℕ → List ℕ
+numbersAfter none numbers = numbers
+numbersAfter (some t) numbers = cond (leb (length (numbersOf t)) (length numbers)) (over (numbersOf t) numbers) numbers
+
+pub record Reads (tables : Option Tables) (numbers : List ℕ) (r : Sheet) (after : List ℕ) : Type 0 where
+  pub answer : r ≡ answerFor tables (length numbers)
+  pub written : after ≡ numbersAfter tables numbers
+
+-- ---- writing
+
+-- the largest count
+abbrev pub most : ℕ
+most = 2 ^ 64 - 1
+
+-- bytes are written one by one from `at` on, those that have no room are left out; all are counted, up to the largest count
+pub record Wrote (bytes : List ℕ) (t : List ℕ) (at : ℕ) (v : List ℕ) (r : ℕ) : Type 0 where
+  pub is : v ≡ sets t at bytes
+  pub next : r ≡ min (at + length bytes) most
+
+-- the answer for a listing when so many bytes are lent, and what they are afterwards
+abbrev pub listedIn : List ℕ → ℕ → Listed
+listedIn lines room = cond (leb (length lines) room) (listed.Bytes (length lines)) (listed.NoRoom (min (length lines) most))
+
+abbrev pub bytesAfter : List ℕ → List ℕ → List ℕ
+bytesAfter lines bytes = cond (leb (length lines) (length bytes)) (over lines bytes) bytes
+
+pub record Lists (lines : List ℕ) (bytes : List ℕ) (r : Listed) (after : List ℕ) : Type 0 where
+  pub answer : r ≡ listedIn lines (length bytes)
+  pub written : after ≡ bytesAfter lines bytes

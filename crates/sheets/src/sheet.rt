@@ -1,0 +1,54 @@
+// A sheet is read: its text stays where it is, and its numbers go into a lent buffer.
+ghost use mathlib.Core.Path.{_≡_};
+ghost use Rattle.rules.specs.Sheet.{read};
+ghost use Rattle.sheets.specs.Contract.{Reads};
+use crate::number::Bytes;
+use crate::number::numbers;
+use crate::sections::Sections;
+use crate::sections::places_of;
+use crate::sections::readable;
+use crate::sections::sections_of;
+
+// What a sheet comes to. Only one that is read writes: the numbers of its tokens, its shapes and its states, one table behind the other.
+// Its text are the bytes from `Sections::TEXT_BYTES` on.
+pub enum Sheet {
+    Read(Sections),
+    // Refusal 9.
+    Refused,
+    // The sheet could be read, into a buffer of so many numbers.
+    NoRoom(usize),
+}
+
+// The tables of a sheet. Nothing is asked of its bytes, nor of the buffer's length.
+pub fn read(sheet: &[u8], table: &mut [u32]) -> Sheet
+    ensures { λ r. ⌜ Reads (read (now (sheet .entry))) (now (table .entry)) r (now (table .exit)) ⌝ }
+{
+    let places = places_of(sheet);
+    if !readable(sheet, places) {
+        return Sheet::Refused;
+    }
+    let sections = sections_of(sheet, places);
+    let tokens: usize = 0;
+    let shapes = tokens + sections.tokens;
+    let states = shapes + sections.shapes;
+    let end = states + sections.states;
+    if table.len() < end {
+        return Sheet::NoRoom(end);
+    }
+    numbers(
+        sheet,
+        places.tokens + Bytes::NUMBER,
+        &mut table[tokens..shapes],
+    );
+    numbers(
+        sheet,
+        places.shapes + Bytes::NUMBER,
+        &mut table[shapes..states],
+    );
+    numbers(
+        sheet,
+        places.states + Bytes::NUMBER,
+        &mut table[states..end],
+    );
+    Sheet::Read(sections)
+}

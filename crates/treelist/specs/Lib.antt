@@ -1,0 +1,2 @@
+-- What the contracts of the program say.
+pub mod Contract
