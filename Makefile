@@ -43,10 +43,12 @@ differ:
 HOSTILE = 1000000
 hostile:
 	./oracle/beside
-	nice valgrind --quiet --error-exitcode=9 target/oracle/release/hostile 5000 $(SEED) bare
+	nice valgrind --quiet --error-exitcode=9 target/oracle/release/hostile 20000 $(SEED) bare
 	nice target/oracle/release/hostile $(HOSTILE) $(SEED)
 
-# The port, the Rust's parser and a Vec of rows on the same tokens.
+# The port, the Rust's parser and a Vec of rows on the same tokens; before them what the library calls, and its stack.
 bench:
 	./oracle/beside
+	nm -u target/staticlib/libffi.a
+	target/oracle/release/bench stack
 	target/oracle/release/bench
