@@ -1,24 +1,35 @@
 # The README's two commands, and the Rust beside the port.
-.PHONY: test run ffi ffi-test oracle record oracle-test differ hostile bench
+.PHONY: test run treelist examples ffi ffi-test oracle record oracle-test differ hostile bench
 
 # The gate: layout, proofs, must-fail edits, programs.
 test:
 	.ci/run
 
-# What there is to run.
-run:
-	@echo "Nothing runs yet: the program treelist is still to come. 'make test' proves what there is."
+# The program treelist, proved, and what it prints of document 01's sheet for `\frac 1 2`. Other sheets lie beside it in examples/.
+run: treelist
+	target/bin/treelist < examples/frac.sheet
+
+# Proved and built: target/bin/treelist.
+treelist:
+	rt check treelist
+
+# What treelist prints of every sheet in examples/, compared with what is stored there.
+examples: treelist
+	examples/check
 
 # The proved parser as a static library for C and Rust: target/staticlib/libffi.a, beside include/cartglaze.h.
 ffi:
 	rt staticlib ffi
 
-# The library through its C header and through the safe Rust crate: what both print is compared with what is stored.
-ffi-test: ffi
-	mkdir -p target/ffi
-	$(CC) -std=c11 -Wall -Wextra -Werror -pedantic -Iinclude ffi-c/example.c target/staticlib/libffi.a -o target/ffi/example
+# The library through its C header and through the safe Rust crate: what both give is compared with what is stored.
+ffi-test: ffi target/ffi/example target/ffi/list
 	target/ffi/example | diff ffi-c/expected -
+	TREELIST=$(CURDIR)/target/ffi/list examples/check
 	cargo test --offline --release --manifest-path ffi-rust/Cargo.toml --target-dir target/ffi/rust -- --nocapture
+
+target/ffi/%: ffi-c/%.c include/cartglaze.h ffi
+	mkdir -p target/ffi
+	$(CC) -std=c11 -Wall -Wextra -Werror -pedantic -Iinclude $< target/staticlib/libffi.a -o $@
 
 # The real Rust, built from the sources in the folder that MITEX_SRC names, beside the port.
 oracle:

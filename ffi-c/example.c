@@ -1,5 +1,5 @@
-/* Document 01's whole case, `\frac 1 2`, through the C face: the listing that `treelist` prints for it, then each leaf's text, a formula's
- * questions, and a refusal. */
+/* Document 01's whole case, `\frac 1 2`, as tables through the C face: the listing that `treelist` prints for it, then each leaf's text, a formula's
+ * questions, and refusals. */
 #include <inttypes.h>
 #include <stdio.h>
 #include <string.h>
@@ -19,24 +19,18 @@ static bool run(uint32_t *tree, size_t room, uint32_t *dropped, size_t *first, s
                          tree, room, dropped, 15, first, second);
 }
 
-static void list(const uint32_t *tree, size_t rows, const uint32_t *dropped, size_t dropped_rows)
+static void list(bool accepted, size_t first, size_t second, const uint32_t *tree, size_t room, const uint32_t *dropped)
 {
-    size_t depth = 0;
-    printf("ok %zu %zu\n", rows, dropped_rows);
-    for (size_t row = 0; row < rows; row++) {
-        const uint32_t *cell = tree + row * 4;
-        if (cell[0] == 0) {
-            printf("%zu %" PRIu32 "\n", depth, cell[1]);
-            depth++;
-        } else if (cell[0] == 1) {
-            printf("%zu %" PRIu32 " %" PRIu32 " %" PRIu32 "\n", depth, cell[1], cell[2], cell[3]);
-        } else {
-            depth--;
-        }
+    uint8_t lines[128];
+    size_t length;
+    if (cartglaze_list(accepted, first, second, tree, room, dropped, 15, lines, COUNT(lines), &length)) {
+        printf("%.*s", (int)length, (const char *)lines);
     }
-    for (size_t row = 0; row < dropped_rows; row++) {
-        const uint32_t *cell = dropped + row * 3;
-        printf("d %" PRIu32 " %" PRIu32 " %" PRIu32 "\n", cell[0], cell[1], cell[2]);
+    /* A byte too few: nothing is written. */
+    lines[0] = '?';
+    size_t whole = length;
+    if (!cartglaze_list(accepted, first, second, tree, room, dropped, 15, lines, whole - 1, &length)) {
+        printf("no room for %zu bytes %c\n", length, lines[0]);
     }
 }
 
@@ -70,13 +64,14 @@ int main(void)
         printf("refused %zu %zu\n", first, second);
         return 1;
     }
-    list(tree, first, dropped, second);
+    list(true, first, second, tree, COUNT(tree), dropped);
     leaves(tree, first);
     formula();
 
     /* A number too few for the last row: refused 8, and zeros behind it. */
     if (!run(tree, COUNT(tree) - 1, dropped, &first, &second)) {
-        printf("refused %zu %zu %" PRIu32 " %" PRIu32 "\n", first, second, tree[1], dropped[1]);
+        list(false, first, second, tree, COUNT(tree) - 1, dropped);
+        printf("tree %" PRIu32 ", dropped %" PRIu32 "\n", tree[1], dropped[1]);
     }
     return 0;
 }

@@ -1,10 +1,11 @@
-/* Cartglaze for C: mitex's parser over tables of numbers. The functions of crates/ffi/src/lib.rt, in the same order, with what each promises.
+/* Cartglaze for C: mitex's parser over tables of numbers, sheets that hold such tables, and the listing of an answer. The functions of crates/ffi/src
+ * (run and questions in lib.rt, sheet.rt, listing.rt), with what each promises.
  *
  * Link target/staticlib/libffi.a, by that path (another library has the name libffi). `rt staticlib ffi` writes it.
  *
  * What a caller owes, of each function: a pointer with a length behind it points to so many elements that are there, aligned as their type is,
  * and is not null, even where the length is 0. What is written to (`uint32_t *`, `size_t *`) overlaps nothing else that is passed. Nothing more:
- * any numbers may stand in the tables and in the rows. The contracts are proved for callers that keep to this.
+ * any bytes may stand in a sheet, and any numbers in the tables and in the rows. The contracts are proved for callers that keep to this.
  *
  * Tables, all of whole rows:
  *   tokens  kind, start, length, shape (0 none, k the k-th)    at most 16,384 rows, text at most 65,535 bytes
@@ -68,6 +69,39 @@ bool cartglaze_is_leaf(const uint8_t *text, size_t text_length, const uint32_t *
  * another row or no row, both are 0. */
 size_t cartglaze_leaf_start(const uint8_t *text, size_t text_length, const uint32_t *tree, size_t tree_length, size_t row);
 size_t cartglaze_leaf_length(const uint8_t *text, size_t text_length, const uint32_t *tree, size_t tree_length, size_t row);
+
+/* Where a sheet's text begins, and so many numbers that every sheet's have room. */
+#define CARTGLAZE_SHEET_TEXT 5
+#define CARTGLAZE_SHEET_NUMBERS 8192
+
+/* The tables of a sheet: version byte 1, then text, tokens, shapes, states, each a 4-byte length and its bytes, numbers 4 bytes, all big-endian;
+ * at most 32,768 bytes. It always returns, and says whether the sheet is read.
+ *
+ * True: the text is the *text bytes of the sheet from CARTGLAZE_SHEET_TEXT on. The *tokens numbers of the token rows stand at the beginning of
+ * `numbers`, behind them the *shapes numbers of the shape rows, behind these the *states numbers of the state rows; every later number is as it was.
+ * All these parts lie inside the sheet and inside `numbers`. *needed is 0. What the rows hold is asked by cartglaze_run alone.
+ * False: `numbers` is as it was, and *text, *tokens, *shapes and *states are 0.
+ *   *needed is 0                    refusal 9, place 0: the sheet is longer, of another version, cut short, followed by more, or has a table not of
+ *                                   whole numbers
+ *   *needed is over numbers_length  the sheet could be read, into so many numbers
+ *
+ * The same sheet and length of `numbers` always give the same result. */
+bool cartglaze_read(const uint8_t *sheet, size_t sheet_length, uint32_t *numbers, size_t numbers_length,
+                    size_t *text, size_t *tokens, size_t *shapes, size_t *states, size_t *needed);
+
+/* The listing of an answer, as lines of text with no 0 behind them. `accepted`, `first` and `second` are what cartglaze_run gave, with both buffers
+ * as it left them; for refusal 9 they are false, 9 and 0. It always returns, and says whether the lines have room.
+ *
+ * True: they stand at the beginning of `out`, *length bytes; every later byte is as it was.
+ * False: `out` is as it was, and they would have *length bytes (from 2^64 - 1 on, that number).
+ *
+ * Accepted, `ok ROWS DROPPED`; then for each start or leaf among the tree rows its depth and kind, and a leaf's start and length; then `d` and the
+ * three numbers of each dropped row. Refused, `refused NUMBER PLACE` alone. Any numbers are taken: rows that a buffer does not have are left out, a
+ * tag over 2 has no line, a finish where nothing is open leaves the depth at 0, and a number of refusal over 2^32 - 1 counts for that.
+ *
+ * The same answer, rows and length of `out` always give the same result. */
+bool cartglaze_list(bool accepted, size_t first, size_t second, const uint32_t *tree, size_t tree_length, const uint32_t *dropped, size_t dropped_length,
+                    uint8_t *out, size_t out_length, size_t *length);
 
 #ifdef __cplusplus
 }

@@ -27,11 +27,34 @@ mod raw {
         pub fn cartglaze_is_leaf(text: *const u8, text_length: usize, tree: *const u32, tree_length: usize, row: usize) -> bool;
         pub fn cartglaze_leaf_start(text: *const u8, text_length: usize, tree: *const u32, tree_length: usize, row: usize) -> usize;
         pub fn cartglaze_leaf_length(text: *const u8, text_length: usize, tree: *const u32, tree_length: usize, row: usize) -> usize;
+        pub fn cartglaze_read(
+            sheet: *const u8,
+            sheet_length: usize,
+            numbers: *mut u32,
+            numbers_length: usize,
+            text: *mut usize,
+            tokens: *mut usize,
+            shapes: *mut usize,
+            states: *mut usize,
+            needed: *mut usize,
+        ) -> bool;
+        pub fn cartglaze_list(
+            accepted: bool,
+            first: usize,
+            second: usize,
+            tree: *const u32,
+            tree_length: usize,
+            dropped: *const u32,
+            dropped_length: usize,
+            out: *mut u8,
+            out_length: usize,
+            length: *mut usize,
+        ) -> bool;
     }
 }
 
 /// The tables that come in, each flat: token rows of 4 numbers, shape rows and state rows of 3.
-#[derive(Clone, Copy, Debug)]
+#[derive(Clone, Copy, Debug, PartialEq, Eq)]
 pub struct Tables<'a> {
     /// The text's bytes.
     pub text: &'a [u8],
@@ -122,4 +145,93 @@ question!(leaf_length, cartglaze_leaf_length, usize);
 pub fn leaf_text<'a>(text: &'a [u8], tree: &[u32], row: usize) -> &'a [u8] {
     let start = leaf_start(text, tree, row);
     &text[start..start + leaf_length(text, tree, row)]
+}
+
+/// So many numbers that every sheet's have room.
+pub const SHEET_NUMBERS: usize = 8_192;
+
+/// Where a sheet's text begins.
+const SHEET_TEXT: usize = 5;
+
+/// What a sheet comes to.
+#[derive(Clone, Copy, Debug, PartialEq, Eq)]
+pub enum Sheet<'a> {
+    /// Its tables: the text is a part of the sheet, the others of the lent numbers, whose later elements are as they were.
+    Read(Tables<'a>),
+    /// Refusal 9. The lent numbers are as they were.
+    Refused,
+    /// It could be read, into more numbers than were lent. These are as they were.
+    NoRoom {
+        /// So many.
+        needed: usize,
+    },
+}
+
+/// The tables of a sheet.
+pub fn read<'a>(sheet: &'a [u8], numbers: &'a mut [u32]) -> Sheet<'a> {
+    let (mut text, mut tokens, mut shapes, mut states, mut needed) = (0, 0, 0, 0, 0);
+    // SAFETY: each pointer with its length is a slice that lives through the call, and what is written to is borrowed `mut`.
+    let is_read = unsafe {
+        raw::cartglaze_read(
+            sheet.as_ptr(),
+            sheet.len(),
+            numbers.as_mut_ptr(),
+            numbers.len(),
+            &mut text,
+            &mut tokens,
+            &mut shapes,
+            &mut states,
+            &mut needed,
+        )
+    };
+    if !is_read {
+        return if needed == 0 { Sheet::Refused } else { Sheet::NoRoom { needed } };
+    }
+    let (tokens, rest) = numbers.split_at(tokens);
+    let (shapes, rest) = rest.split_at(shapes);
+    Sheet::Read(Tables { text: &sheet[SHEET_TEXT..SHEET_TEXT + text], tokens, shapes, states: &rest[..states] })
+}
+
+/// What a listing comes to.
+#[derive(Clone, Copy, Debug, PartialEq, Eq)]
+pub enum Listed {
+    /// It stands at the beginning of the lent bytes; later ones are as they were.
+    Bytes {
+        /// So many bytes.
+        length: usize,
+    },
+    /// It has more bytes than were lent. These are as they were.
+    NoRoom {
+        /// So many.
+        needed: usize,
+    },
+}
+
+/// The listing of an answer and of both buffers, as [`run`] left them: the lines that `treelist` prints.
+pub fn list(answer: Answer, tree: &[u32], dropped: &[u32], out: &mut [u8]) -> Listed {
+    let (accepted, first, second) = match answer {
+        Answer::Accepted { rows, dropped } => (true, rows, dropped),
+        Answer::Refused { number, place } => (false, number, place),
+    };
+    let mut length = 0;
+    // SAFETY: each pointer with its length is a slice that lives through the call, and what is written to is borrowed `mut`.
+    let written = unsafe {
+        raw::cartglaze_list(
+            accepted,
+            first,
+            second,
+            tree.as_ptr(),
+            tree.len(),
+            dropped.as_ptr(),
+            dropped.len(),
+            out.as_mut_ptr(),
+            out.len(),
+            &mut length,
+        )
+    };
+    if written {
+        Listed::Bytes { length }
+    } else {
+        Listed::NoRoom { needed: length }
+    }
 }

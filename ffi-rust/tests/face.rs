@@ -87,15 +87,6 @@ fn recorded_list() {
 }
 
 #[test]
-fn refused_tables_write_nothing() {
-    let tables = Tables { text: b"a", tokens: &[21, 0, 2, 0], shapes: &[], states: &[] };
-    let (mut tree, mut dropped) = ([7; 8], [9; 3]);
-    assert_eq!(run(tables, &mut tree, &mut dropped), Answer::Refused { number: 3, place: 0 });
-    assert_eq!((tree, dropped), ([7; 8], [9; 3]));
-    assert_eq!(run(tables, &mut tree, &mut dropped[..2]), Answer::Refused { number: 2, place: 0 });
-}
-
-#[test]
 fn nothing_is_a_root() {
     let mut tree = [7; 8];
     let answer = run(Tables { text: b"", tokens: &[], shapes: &[], states: &[] }, &mut tree, &mut []);

@@ -1,2 +1,2 @@
--- What the contract of the exported run fixes.
+-- What the contracts of the exported functions fix.
 pub mod Only

@@ -1,11 +1,25 @@
--- Two results of the exported run that meet its contract are equal: the answers that Bool and numbers stand for differ where these do. Assumes nothing.
+-- Two results of an exported function that meet its contract are equal: answers that Bool and numbers stand for differ where these do. The questions' contracts
+-- equate the result with the rule's, as those of the functions that they hand on (crates/cartglaze/proofs/Only.antt). Assumes nothing.
 use mathlib.Core.Path.{_≡_, refl, sym, ap, _∙_}
 use mathlib.Core.Bool.{Bool, true, false}
 use mathlib.Core.List.{List}
-use Prim.Native.Nat.{ℕ}
+use mathlib.Core.Option.{Option, none, some}
+use Prim.Native.Nat.{ℕ, _<_}
+use native.Mathlib.Omega.{arith}
+use borrow.Author.Tests.{leb-false}
+use lib.Dec.{leb}
+use lib.ListN.{length}
 use Rattle.rules.specs.Checks.{Tables}
+use Rattle.rules.specs.Questions.{leafRange}
 use Rattle.rules.specs.Run.{Answer, accepted, refusedAt, run}
-use Rattle.ffi.specs.Exported.{answerFrom, ranFrom}
+use Rattle.rules.proofs.Characters.{either}
+use Rattle.sheets.specs.Contract.{Lists, numbersOf}
+use Rattle.sheets.specs.declared.listing.Listed.{Listed}
+use Rattle.sheets.specs.declared.listing.Listed.the-variants.{Bytes, NoRoom}
+use Rattle.ffi.specs.Exported.{answerFrom, ranFrom, Hands, listedFrom, notRead}
+use Rattle.ffi.specs.declared.sheet.Counts.{Counts}
+
+-- ---- the run
 
 -- an answer number by number
 abbrev is : Answer → Bool
@@ -39,3 +53,50 @@ only-run t tree dropped r s a b c d v w x y e f =
     let same = sym e ∙ f in
     let answers : answerFrom r a b ≡ answerFrom s c d = ap (λ z. z .answer) same in
     (sym (is-of r a b) ∙ ap is answers ∙ is-of s c d, (sym (first-of r a b) ∙ ap first answers ∙ first-of s c d, (sym (second-of r a b) ∙ ap second answers ∙ second-of s c d, (ap (λ z. z .tree) same, ap (λ z. z .dropped) same))))
+
+-- ---- the leaf's range
+pub only-start : (text tree : List ℕ) (row r s : ℕ) → r ≡ leafRange text tree row .start → s ≡ leafRange text tree row .start → r ≡ s
+only-start text tree row r s e f = e ∙ sym f
+
+pub only-length : (text tree : List ℕ) (row r s : ℕ) → r ≡ leafRange text tree row .size → s ≡ leafRange text tree row .size → r ≡ s
+only-length text tree row r s e f = e ∙ sym f
+
+-- ---- a sheet
+
+-- what is returned, all five numbers and every element of the lent ones
+pub only-read : {tables : Option Tables} {numbers v w : List ℕ} {r s : Counts} → Hands tables numbers r v → Hands tables numbers s w → (r ≡ s) × (v ≡ w)
+only-read a b = (a .counts-are ∙ sym (b .counts-are), a .written ∙ sym (b .written))
+
+-- a sheet that is not read and needs no room is refused: one that has no room has a number at least
+pub refused-tells : (tables : Option Tables) {numbers after : List ℕ} → Hands tables numbers (notRead 0) after → tables ≡ none
+refused-tells none k = refl
+refused-tells (some t) {numbers} k =
+    either (leb (length (numbersOf t)) (length numbers))
+    (λ fits. let told : true ≡ false = sym (ap (λ (x : Counts). x .read) (rw fits at (k .counts-are))) in cc)
+    (λ more.
+    let long : length numbers < length (numbersOf t) = leb-false _ _ more in
+    let none-needed = ap (λ (x : Counts). x .needed) (rw more at (k .counts-are)) in
+    absurd (omega arith))
+
+-- ---- a listing
+abbrev written : Listed → Bool
+written (Bytes n) = true
+written (NoRoom n) = false
+
+abbrev bytes : Listed → ℕ
+bytes (Bytes n) = n
+bytes (NoRoom n) = n
+
+written-of : (r : Bool) (n : ℕ) → written (listedFrom r n) ≡ r
+written-of true n = refl
+written-of false n = refl
+
+bytes-of : (r : Bool) (n : ℕ) → bytes (listedFrom r n) ≡ n
+bytes-of true n = refl
+bytes-of false n = refl
+
+-- what is returned, the number and every byte of the lent ones
+pub only-list : (lines out : List ℕ) (r s : Bool) (n m : ℕ) (v w : List ℕ) → Lists lines out (listedFrom r n) v → Lists lines out (listedFrom s m) w → (r ≡ s) × ((n ≡ m) × (v ≡ w))
+only-list lines out r s n m v w a b =
+    let same : listedFrom r n ≡ listedFrom s m = a .answer ∙ sym (b .answer) in
+    (sym (written-of r n) ∙ ap written same ∙ written-of s m, (sym (bytes-of r n) ∙ ap bytes same ∙ bytes-of s m, a .written ∙ sym (b .written)))

@@ -1,8 +1,20 @@
--- The run's answer as it comes back over C: whether it is accepted, and two numbers.
-use Prim.Native.Nat.{ℕ}
+-- What goes over C in numbers: the run's answer, what a sheet comes to, and what a listing comes to.
+use Prim.Native.Nat.{ℕ, _-_, _^_, min}
 use mathlib.Core.Bool.{Bool, true, false}
 use mathlib.Core.List.{List}
+use mathlib.Core.Option.{Option}
+use mathlib.Core.Path.{_≡_}
+use lib.ListN.{length}
+use Rattle.rules.specs.Checks.{Tables}
 use Rattle.rules.specs.Run.{Answer, accepted, refusedAt, Ran}
+use Rattle.sheets.specs.Contract.{answerFor, numbersAfter}
+use Rattle.sheets.specs.declared.listing.Listed.{Listed}
+use Rattle.sheets.specs.declared.listing.Listed.the-variants as listed
+use Rattle.sheets.specs.declared.sheet.Sheet.{Sheet}
+use Rattle.sheets.specs.declared.sheet.Sheet.the-variants as sheet
+use Rattle.ffi.specs.declared.sheet.Counts.{Counts}
+
+-- ---- the run
 
 -- both row counts, or the number of refusal and the place
 abbrev pub answerFrom : Bool → ℕ → ℕ → Answer
@@ -12,3 +24,35 @@ answerFrom false number place = refusedAt number place
 -- with both lent buffers after it
 abbrev pub ranFrom : Bool → ℕ → ℕ → List ℕ → List ℕ → Ran
 ranFrom is first second tree dropped = record { answer = answerFrom is first second; tree = tree; dropped = dropped }
+
+-- ---- a sheet
+
+-- none of its sections is told: it is refused, or has so many numbers that there is no room for
+abbrev pub notRead : ℕ → Counts
+notRead needed = record { read = false; text = 0; tokens = 0; shapes = 0; states = 0; needed = needed }
+
+-- a sheet without room has a number at least, so 0 tells refusal 9 (`refused-tells`)
+abbrev pub countsOf : Sheet → Counts
+countsOf (sheet.Read s) = record { read = true; text = s .text; tokens = s .tokens; shapes = s .shapes; states = s .states; needed = 0 }
+countsOf sheet.Refused = notRead 0
+countsOf (sheet.NoRoom numbers) = notRead numbers
+
+-- the counts for a sheet of these tables, or of none, when these numbers are lent; and what the numbers are afterwards
+pub record Hands (tables : Option Tables) (numbers : List ℕ) (counts : Counts) (after : List ℕ) : Type 0 where
+  pub counts-are : counts ≡ countsOf (answerFor tables (length numbers))
+  pub written : after ≡ numbersAfter tables numbers
+
+-- ---- a listing
+
+-- the answer as it comes in again. A number of refusal has 32 bits; a larger one counts for the largest
+abbrev pub largestNumber : ℕ
+largestNumber = 2 ^ 32 - 1
+
+abbrev pub answerIn : Bool → ℕ → ℕ → Answer
+answerIn true rows dropped = accepted rows dropped
+answerIn false number place = refusedAt (min number largestNumber) place
+
+-- written with so many bytes, or not for want of room for so many
+abbrev pub listedFrom : Bool → ℕ → Listed
+listedFrom true count = listed.Bytes count
+listedFrom false count = listed.NoRoom count

@@ -1,4 +1,7 @@
 // The public face for C and Rust: numbers and slices alone. A slice is a pointer and a length there; `include/cartglaze.h` has the same functions.
+mod listing;
+mod sheet;
+
 ghost use mathlib.Core.Path.{_≡_};
 ghost use Rattle.rules.specs.Questions.{isDisplay, isInline, isValid, isLeaf, leafRange};
 ghost use Rattle.rules.specs.Run.{run as runOf};
@@ -11,6 +14,8 @@ use cartglaze::is_leaf;
 use cartglaze::is_valid;
 use cartglaze::leaf_range;
 use cartglaze::run;
+pub use listing::cartglaze_list;
+pub use sheet::cartglaze_read;
 
 fn wide(number: u32) -> usize
     ensures { λ r. ⌜ r ≡ number ⌝ }

@@ -3,7 +3,6 @@ ghost use mathlib.Core.Path.{_≡_};
 ghost use Rattle.rules.specs.Kinds.{leafKind};
 ghost use Rattle.syntax.specs.Numbers.{syntaxKinds};
 use crate::limits::Limits;
-use crate::token::Token;
 
 pub struct SyntaxKind;
 
@@ -154,48 +153,31 @@ impl SyntaxKind {
         Self::ALL
     }
 
-    // `From<Token>`, arm by arm: the kind of the leaf that a token becomes; the last arm is a command's name. A number over 39 is no token's kind and gives
-    // TOKEN_ERROR.
+    // For each kind of token the kind of the leaf that it becomes, two digits each, eight kinds to a line from the right: the names above a line are its
+    // kinds in order.
+    const OF_TOKEN: [u64; 5] = [
+        // LINE_BREAK, WHITESPACE, LINE_COMMENT, LEFT_CURLY, LEFT_BRACKET, LEFT_PAREN, RIGHT_CURLY, RIGHT_BRACKET
+        0x07_05_08_06_04_03_02_01,
+        // RIGHT_PAREN, COMMA, TILDE, SLASH, AMPERSAND, CARET, APOSTROPHE, DITTO
+        0x18_17_16_11_0c_0b_0a_09,
+        // SEMICOLON, HASH, ASTERISK, AT_SIGN, UNDERSCORE, WORD, DOLLAR, NEW_LINE
+        0x1e_0e_0d_15_14_13_12_19,
+        // ERROR, MACRO_ARG, GENERIC, BEGIN_ENVIRONMENT, END_ENVIRONMENT, BEGIN_MATH, END_MATH, ERROR_BEGIN_ENVIRONMENT
+        0x00_10_0f_1a_1a_1b_0d_00,
+        // ERROR_END_ENVIRONMENT, IF_FALSE, IF_TYPST, IF, ELSE, END_IF, LEFT, RIGHT
+        0x1b_1b_1b_1b_1b_1b_1b_00,
+    ];
+
+    // `From<Token>`: the kind of the leaf that a token becomes. A number over 39 is no token's kind and gives TOKEN_ERROR.
     pub fn from_token(kind: u32) -> u32
         ensures { λ r. ⌜ r ≡ leafKind kind ⌝ }
     {
-        if Limits::KINDS <= kind as usize {
-            return Self::TOKEN_ERROR;
-        }
-        match kind {
-            Token::LINE_BREAK => Self::TOKEN_LINE_BREAK,
-            Token::WHITESPACE => Self::TOKEN_WHITE_SPACE,
-            Token::LINE_COMMENT => Self::TOKEN_COMMENT,
-            Token::LEFT_CURLY => Self::TOKEN_LBRACE,
-            Token::LEFT_BRACKET => Self::TOKEN_LBRACKET,
-            Token::LEFT_PAREN => Self::TOKEN_LPAREN,
-            Token::RIGHT_CURLY => Self::TOKEN_RBRACE,
-            Token::RIGHT_BRACKET => Self::TOKEN_RBRACKET,
-            Token::RIGHT_PAREN => Self::TOKEN_RPAREN,
-            Token::COMMA => Self::TOKEN_COMMA,
-            Token::TILDE => Self::TOKEN_TILDE,
-            Token::SLASH => Self::TOKEN_SLASH,
-            Token::AMPERSAND => Self::TOKEN_AMPERSAND,
-            Token::CARET => Self::TOKEN_CARET,
-            Token::APOSTROPHE => Self::TOKEN_APOSTROPHE,
-            Token::DITTO => Self::TOKEN_DITTO,
-            Token::SEMICOLON => Self::TOKEN_SEMICOLON,
-            Token::HASH => Self::TOKEN_HASH,
-            Token::ASTERISK => Self::TOKEN_ASTERISK,
-            Token::AT_SIGN => Self::TOKEN_AT_SIGN,
-            Token::UNDERSCORE => Self::TOKEN_UNDERSCORE,
-            Token::WORD => Self::TOKEN_WORD,
-            Token::DOLLAR => Self::TOKEN_DOLLAR,
-            Token::NEW_LINE => Self::ITEM_NEW_LINE,
-            Token::ERROR => Self::TOKEN_ERROR,
-            Token::MACRO_ARG => Self::TOKEN_WORD,
-            Token::BEGIN_ENVIRONMENT => Self::TOKEN_COMMAND_SYM,
-            Token::END_ENVIRONMENT => Self::TOKEN_COMMAND_SYM,
-            Token::BEGIN_MATH => Self::TOKEN_BEGIN_MATH,
-            Token::END_MATH => Self::TOKEN_END_MATH,
-            Token::ERROR_BEGIN_ENVIRONMENT => Self::TOKEN_ERROR,
-            Token::ERROR_END_ENVIRONMENT => Self::TOKEN_ERROR,
-            _ => Self::CLAUSE_COMMAND_NAME,
+        let place = kind as usize;
+        if place < Limits::KINDS {
+            let line = Self::OF_TOKEN[place / 8];
+            ((line >> (place % 8 * 8)) % 256) as u32
+        } else {
+            Self::TOKEN_ERROR
         }
     }
 }
