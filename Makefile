@@ -1,5 +1,5 @@
 # The README's two commands, and the Rust beside the port.
-.PHONY: test run treelist examples ffi ffi-test oracle record oracle-test
+.PHONY: test run treelist examples ffi ffi-test oracle record oracle-test differ hostile bench
 
 # The gate: layout, proofs, must-fail edits, programs.
 test:
@@ -42,3 +42,24 @@ record:
 # The tests of the Rust side.
 oracle-test:
 	./oracle/test
+
+# The proved library held against the real Rust, over so many formulas.
+CASES = 2000000
+SEED = 1
+differ:
+	./oracle/beside
+	nice target/oracle/release/differ $(CASES) $(SEED)
+
+# Tables that no lexer makes, against the model: some thousand under valgrind first, then so many.
+HOSTILE = 1000000
+hostile:
+	./oracle/beside
+	nice valgrind --quiet --error-exitcode=9 target/oracle/release/hostile 20000 $(SEED) bare
+	nice target/oracle/release/hostile $(HOSTILE) $(SEED)
+
+# The port, the Rust's parser and a Vec of rows on the same tokens; before them what the library calls, and its stack.
+bench:
+	./oracle/beside
+	nm -u target/staticlib/libffi.a
+	target/oracle/release/bench stack
+	target/oracle/release/bench

@@ -15,6 +15,8 @@ use crate::{token_rows, Spec, Verdicts};
 #[derive(Debug)]
 pub struct Run {
     pub tables: Tables,
+    /// The plain build's own tree, or how it panicked.
+    pub plain: Tree,
     pub end: End,
     /// The first token not wholly read when it ended.
     pub end_place: usize,
@@ -51,6 +53,7 @@ impl Run {
                 &spec.rows(&verdicts),
                 &verdicts.states,
             ),
+            plain,
             end,
             end_place: tape.place(),
             rows,

@@ -12,6 +12,7 @@ mod named;
 mod notation;
 mod parts;
 mod sequences;
+mod smallest;
 mod stream;
 
 pub use case::{read_list, write_list, Case};
@@ -22,4 +23,5 @@ pub use named::{comment_formulas, paper_formulas, Formula};
 pub use notation::notation;
 pub use parts::used_shapes;
 pub use sequences::all as all_sequences;
+pub use smallest::smallest;
 pub use stream::{by_chance, usual};

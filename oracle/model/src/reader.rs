@@ -2,14 +2,13 @@
 
 use std::ops::Range;
 
-use sheet::{Shape, Tables};
+use sheet::{Counts, Shape, Tables};
 
 use crate::kinds::*;
 use crate::refusal::Step;
 use crate::rows::{Mark, Rows};
 use crate::slip::Slip;
 use crate::stops::Scope;
-use crate::Counts;
 
 /// A list's scope and its two marks.
 #[derive(Clone, Copy)]

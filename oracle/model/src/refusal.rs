@@ -1,11 +1,6 @@
 //! Refusals.
 
-/// A number of refusal with its place.
-#[derive(Debug, Clone, Copy, PartialEq, Eq)]
-pub struct Refusal {
-    pub number: u32,
-    pub place: usize,
-}
+use sheet::Refusal;
 
 pub(crate) type Step<T = ()> = Result<T, Refusal>;
 

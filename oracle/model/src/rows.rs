@@ -1,9 +1,8 @@
 //! Rows into lent buffers.
 
-use sheet::{FINISH, LEAF, START};
+use sheet::{Counts, FINISH, LEAF, START};
 
 use crate::refusal::{refuse, Step};
-use crate::Counts;
 
 /// The nodes that may be open at once, root counted.
 const OPEN_NODES: usize = 128;

@@ -1,8 +1,8 @@
 //! What the model does with tables that no lexer makes, and what it leaves in the
 //! lent buffers.
 
-use model::{run, Refusal};
-use sheet::Tables;
+use model::run;
+use sheet::{Refusal, Tables};
 
 const MARK: u32 = 77;
 

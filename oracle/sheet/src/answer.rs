@@ -1,5 +1,7 @@
 //! What a run gives back.
 
+use crate::{Ran, Refusal};
+
 /// The tag of a row that opens a node.
 pub const START: u32 = 0;
 /// The tag of a row that holds a text.
@@ -36,4 +38,47 @@ pub enum Answer {
         number: u32,
         place: u32,
     },
+}
+
+impl Answer {
+    /// The answer of a run that wrote to these buffers.
+    pub fn of(ran: Ran, tree: &[u32], dropped: &[u32]) -> Self {
+        match ran {
+            Ok(counts) => Answer::Accepted {
+                rows: tree.chunks(4).take(counts.rows).map(Row::of).collect(),
+                dropped: dropped
+                    .chunks(3)
+                    .take(counts.dropped)
+                    .map(Dropped::of)
+                    .collect(),
+            },
+            Err(Refusal { number, place }) => Answer::Refused {
+                number,
+                place: place as u32,
+            },
+        }
+    }
+}
+
+impl Row {
+    /// The row of four numbers.
+    pub fn of(numbers: &[u32]) -> Self {
+        Row {
+            tag: numbers[0],
+            kind: numbers[1],
+            start: numbers[2],
+            len: numbers[3],
+        }
+    }
+}
+
+impl Dropped {
+    /// The row of three numbers.
+    pub fn of(numbers: &[u32]) -> Self {
+        Dropped {
+            token: numbers[0],
+            reason: numbers[1],
+            leaves: numbers[2],
+        }
+    }
 }

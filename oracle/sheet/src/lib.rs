@@ -4,9 +4,11 @@
 mod answer;
 mod bytes;
 mod listing;
+mod ran;
 mod tables;
 
 pub use answer::{Answer, Dropped, Row, FINISH, LEAF, START};
 pub use bytes::{Bytes, Unread};
 pub use listing::listing;
+pub use ran::{Counts, Ran, Refusal};
 pub use tables::{Shape, State, Tables, Token};

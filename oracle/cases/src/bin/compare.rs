@@ -11,7 +11,7 @@ use std::process::ExitCode;
 
 use answers::{with_deep_stack, Fault, Run, Spec};
 use cases::dice::Dice;
-use cases::{all_sequences, around_limits, by_chance, used_shapes, usual};
+use cases::{all_sequences, around_limits, by_chance, smallest, usual};
 
 #[derive(Default)]
 struct Tally {
@@ -103,7 +103,8 @@ impl Tally {
             self.answers += 1;
             if differs(&run, room) {
                 self.differences += 1;
-                println!("difference: {}", smallest(text, spec));
+                let (text, spec) = smallest(text, spec, differs_somewhere);
+                println!("difference: {text:?} with {spec}");
                 break;
             }
         }
@@ -116,23 +117,4 @@ fn differs(run: &Run, room: usize) -> bool {
 
 fn differs_somewhere(text: &str, spec: &Spec) -> bool {
     Run::of(text, spec).is_ok_and(|run| (0..=run.writes.len()).any(|room| differs(&run, room)))
-}
-
-/// The text with characters left out as long as it still differs, and its shapes.
-fn smallest(text: &str, spec: &Spec) -> String {
-    let mut chars: Vec<char> = text.chars().collect();
-    let mut at = 0;
-    while at < chars.len() {
-        let mut shorter = chars.clone();
-        shorter.remove(at);
-        if differs_somewhere(&shorter.iter().collect::<String>(), spec) {
-            chars = shorter;
-            at = 0;
-        } else {
-            at += 1;
-        }
-    }
-    let text: String = chars.into_iter().collect();
-    let used = used_shapes(&text, spec).unwrap_or_default();
-    format!("{text:?} with {used}")
 }

@@ -1,0 +1,91 @@
+//! Times the port, the Rust's parser and a Vec of rows on the same tokens.
+//!
+//! `bench` prints a table with nanoseconds a token and then the ratios: of each workload
+//! the worst over its sizes, and of the binder port/vec at 10,000 tokens. `bench repeat
+//! RIVAL WORKLOAD TOKENS TIMES` runs one rival alone, for a profile. `bench stack` prints how
+//! much stack the port needs.
+
+use std::process::ExitCode;
+use std::time::Duration;
+
+use answers::with_deep_stack;
+use bench::{least_stack, read_on, Measured, Prepared, Rival, Workload, BINDER, WORKLOADS};
+
+fn main() -> ExitCode {
+    let words: Vec<String> = std::env::args().skip(1).collect();
+    with_deep_stack(move || {
+        let words: Vec<&str> = words.iter().map(String::as_str).collect();
+        match words[..] {
+            [] => all(Duration::from_millis(300)),
+            ["quick"] => all(Duration::from_millis(30)),
+            ["stack"] => stack(),
+            ["stack", bytes] => bytes.parse().map_or(ExitCode::FAILURE, |bytes| {
+                read_on(bytes);
+                ExitCode::SUCCESS
+            }),
+            ["repeat", rival, name, tokens, times] => repeat(rival, name, tokens, times),
+            _ => {
+                eprintln!("usage: bench [quick | stack | repeat RIVAL WORKLOAD TOKENS TIMES]");
+                ExitCode::FAILURE
+            }
+        }
+    })
+}
+
+fn stack() -> ExitCode {
+    let kib = least_stack() / 1024;
+    println!("stack for 128 open nodes: {kib} KiB, of which a thread's own start takes a part");
+    ExitCode::SUCCESS
+}
+
+/// The size at which the binder is held against the Vec.
+const BINDER_TOKENS: usize = 10_000;
+
+fn all(span: Duration) -> ExitCode {
+    println!(
+        "nanoseconds a token, the least of many rounds: the port; mitex's parser on tokens made"
+    );
+    println!("before; the same with its lexer; that lexer alone; the same rows put into a Vec");
+    println!("workload   {}", Measured::HEADING);
+    let measured: Vec<_> = WORKLOADS.iter().map(|w| (w, sizes(w, span))).collect();
+    for (workload, measured) in &measured {
+        let first = &measured[0];
+        let last = &measured[measured.len() - 1];
+        let growth = last.per_token(last.port) / first.per_token(first.port);
+        println!("growth {} {growth:.2}", workload.name);
+    }
+    for (workload, measured) in &measured {
+        let worst = measured.iter().map(Measured::port_to_mitex);
+        let worst = worst.fold(0.0, f64::max);
+        println!("ratio {} port/mitex {worst:.2}", workload.name);
+    }
+    let (_, binder) = &measured[0];
+    let at = WORKLOADS[0].sizes.iter().position(|&s| s == BINDER_TOKENS);
+    let binder = binder[at.expect("the binder's size")];
+    println!("ratio {BINDER} port/vec {:.2}", binder.port_to_vec());
+    ExitCode::SUCCESS
+}
+
+fn sizes(workload: &Workload, span: Duration) -> Vec<Measured> {
+    let measure = |&tokens: &usize| {
+        let measured = Prepared::new(workload, tokens).measure(span);
+        println!("{:10} {measured}", workload.name);
+        measured
+    };
+    workload.sizes.iter().map(measure).collect()
+}
+
+fn repeat(rival: &str, name: &str, tokens: &str, times: &str) -> ExitCode {
+    let rival = Rival::ALL.iter().find(|(called, _)| *called == rival);
+    let workload = WORKLOADS.iter().find(|workload| workload.name == name);
+    match (rival, workload, tokens.parse(), times.parse()) {
+        (Some(&(_, rival)), Some(workload), Ok(tokens), Ok(times)) => {
+            let mut prepared = Prepared::new(workload, tokens);
+            (0..times).for_each(|_| {
+                prepared.once(rival);
+            });
+            ExitCode::SUCCESS
+        }
+        _ => ExitCode::FAILURE,
+    }
+}

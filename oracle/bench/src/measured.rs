@@ -1,0 +1,47 @@
+//! What was measured on one formula.
+
+use std::fmt;
+use std::time::Duration;
+
+#[derive(Debug, Clone, Copy)]
+pub struct Measured {
+    pub tokens: usize,
+    pub rows: usize,
+    pub port: Duration,
+    /// The Rust's parser on tokens that were made before.
+    pub mitex: Duration,
+    /// The Rust's parser with its lexer.
+    pub whole: Duration,
+    /// The lexer alone.
+    pub lexing: Duration,
+    pub vec: Duration,
+}
+
+impl Measured {
+    pub const HEADING: &'static str =
+        "tokens    rows     port    mitex    whole   lexing      vec  port/mitex  port/vec";
+
+    pub fn port_to_mitex(&self) -> f64 {
+        self.port.as_secs_f64() / self.mitex.as_secs_f64()
+    }
+
+    pub fn port_to_vec(&self) -> f64 {
+        self.port.as_secs_f64() / self.vec.as_secs_f64()
+    }
+
+    /// Nanoseconds a token.
+    pub fn per_token(&self, time: Duration) -> f64 {
+        time.as_secs_f64() * 1e9 / self.tokens as f64
+    }
+}
+
+impl fmt::Display for Measured {
+    fn fmt(&self, f: &mut fmt::Formatter<'_>) -> fmt::Result {
+        write!(f, "{:6} {:7}", self.tokens, self.rows)?;
+        for time in [self.port, self.mitex, self.whole, self.lexing, self.vec] {
+            write!(f, " {:8.2}", self.per_token(time))?;
+        }
+        write!(f, " {:11.2}", self.port_to_mitex())?;
+        write!(f, " {:9.2}", self.port_to_vec())
+    }
+}

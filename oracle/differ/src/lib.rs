@@ -1,0 +1,9 @@
+//! The proved library held against the real Rust, formula by formula, in one process.
+
+mod formulas;
+mod held;
+mod tally;
+
+pub use formulas::formulas;
+pub use held::{difference, Rooms, Runner};
+pub use tally::Tally;

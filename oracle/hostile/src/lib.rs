@@ -1,0 +1,15 @@
+//! Tables that no lexer makes, through the proved library and the model of document 01:
+//! the answers, and every element of both lent buffers before and after.
+
+mod buffers;
+mod case;
+mod damage;
+mod held;
+mod smaller;
+mod text;
+mod tokens;
+
+pub use buffers::{Around, Lent};
+pub use case::Case;
+pub use held::{difference, Runner};
+pub use smaller::smallest;

@@ -1,0 +1,53 @@
+//! Tables that no lexer makes: `hostile CASES SEED [bare]`. With `bare` nothing lies around
+//! the lent buffers, for a tool that watches memory.
+
+use std::process::ExitCode;
+
+use cases::dice::Dice;
+use hostile::{difference, smallest, Around, Case};
+
+fn main() -> ExitCode {
+    let words: Vec<String> = std::env::args().skip(1).collect();
+    let words: Vec<&str> = words.iter().map(String::as_str).collect();
+    let (count, seed, around) = match words[..] {
+        [count, seed] => (count.parse(), seed.parse(), Around::Canaries),
+        [count, seed, "bare"] => (count.parse(), seed.parse(), Around::Nothing),
+        _ => (Ok(0), Ok(0), Around::Nothing),
+    };
+    match (count, seed) {
+        (Ok(count), Ok(seed)) if count > 0 => compare(count, seed, around),
+        _ => {
+            eprintln!("usage: hostile CASES SEED [bare]");
+            ExitCode::FAILURE
+        }
+    }
+}
+
+fn compare(count: usize, seed: u64, around: Around) -> ExitCode {
+    let mut dice = Dice::new(seed);
+    let mut by_number = [0; 9];
+    let mut differ = 0;
+    for _ in 0..count {
+        let case = Case::by_chance(&mut dice);
+        match difference(&case, &mut dice, around, &port::run) {
+            Ok(ran) => by_number[ran.map_or_else(|refusal| refusal.number as usize, |_| 0)] += 1,
+            Err(_) => {
+                differ += 1;
+                show(case, around);
+            }
+        }
+    }
+    println!("accepted {}", by_number[0]);
+    for (number, count) in by_number.iter().enumerate().skip(1) {
+        println!("refused {number}: {count}");
+    }
+    println!("{count} cases, {differ} differ");
+    ExitCode::from(u8::from(differ > 0))
+}
+
+/// Prints the smallest case that still differs, with both answers.
+fn show(case: Case, around: Around) {
+    let says = |case: &Case| difference(case, &mut Dice::new(0), around, &port::run).err();
+    let case = smallest(case, &|case| says(case).is_some());
+    println!("differs: {case:?}\n{}", says(&case).unwrap_or_default());
+}

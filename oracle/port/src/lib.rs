@@ -1,0 +1,23 @@
+//! The proved library, over the same tables and answers as the model.
+
+use cartglaze::Answer;
+use sheet::{Counts, Ran, Refusal, Tables};
+
+pub use cartglaze::{is_display, is_inline, is_leaf, is_valid, leaf_text};
+
+/// The whole run over lent buffers.
+pub fn run(tables: &Tables, tree: &mut [u32], dropped: &mut [u32]) -> Ran {
+    let lent = cartglaze::Tables {
+        text: &tables.text,
+        tokens: &tables.tokens,
+        shapes: &tables.shapes,
+        states: &tables.states,
+    };
+    match cartglaze::run(lent, tree, dropped) {
+        Answer::Accepted { rows, dropped } => Ok(Counts { rows, dropped }),
+        Answer::Refused { number, place } => Err(Refusal {
+            number: number as u32,
+            place,
+        }),
+    }
+}
