@@ -89,7 +89,7 @@ fn samples() {
         }
     }
     println!("{count} sheets");
-    assert!(count >= 32);
+    assert!(count >= 47);
 }
 
 /// Refusals 5 to 8 by the samples, whose buffers `guarded` holds to zeros.

@@ -1,8 +1,11 @@
 //! Any tables through the library: each refusal of document 01 with its number and place, at its limit and one over, and nothing written outside.
 mod guarded;
+#[path = "guarded/numbers.rs"]
+mod numbers;
 
 use cartglaze::{Answer, Tables};
 use guarded::{guarded, refused};
+use numbers::Numbers;
 
 const NONE: Tables = Tables { text: b"", tokens: &[], shapes: &[], states: &[] };
 
@@ -208,24 +211,12 @@ fn order_of_refusals() {
     assert_eq!(guarded(Tables { tokens: &good_tokens, shapes: &[], states: &[1, 0, 0], ..bad }, 0, 3).0, refused(8, 0));
 }
 
-/// Numbers that look random and are the same each time.
-struct Numbers(u64);
-
-impl Numbers {
-    fn below(&mut self, bound: u32) -> u32 {
-        self.0 ^= self.0 << 13;
-        self.0 ^= self.0 >> 7;
-        self.0 ^= self.0 << 17;
-        (self.0 >> 32) as u32 % bound
-    }
-
-    /// Nearly always below the bound.
-    fn mostly_below(&mut self, bound: u32) -> u32 {
-        if self.below(500) == 0 {
-            bound + self.below(u32::MAX - bound)
-        } else {
-            self.below(bound)
-        }
+/// Nearly always below the bound.
+fn mostly_below(numbers: &mut Numbers, bound: u32) -> u32 {
+    if numbers.below(500) == 0 {
+        bound + numbers.below(u32::MAX - bound)
+    } else {
+        numbers.below(bound)
     }
 }
 
@@ -239,17 +230,17 @@ fn any_tables() {
         let (tokens, shapes, states) = (numbers.below(160), numbers.below(4), numbers.below(4));
         let braces = numbers.below(8) == 0;
         let mut token = || {
-            let kind = if braces { 3 } else { numbers.mostly_below(40) };
-            [kind, numbers.below(12), 1, numbers.mostly_below(shapes + 1)]
+            let kind = if braces { 3 } else { mostly_below(&mut numbers, 40) };
+            [kind, numbers.below(12), 1, mostly_below(&mut numbers, shapes + 1)]
         };
         let tokens: Vec<u32> = (0..tokens).flat_map(|_| token()).collect();
         let shapes: Vec<u32> = (0..shapes)
             .flat_map(|_| {
                 let form = [0, 1, 2, 3, 5, 6][numbers.below(6) as usize];
-                [1 + numbers.mostly_below(if form > 3 { 1 } else { 2 }), form, if form == 1 || form == 2 { numbers.below(4) } else { 0 }]
+                [1 + mostly_below(&mut numbers, if form > 3 { 1 } else { 2 }), form, if form == 1 || form == 2 { numbers.below(4) } else { 0 }]
             })
             .collect();
-        let states: Vec<u32> = (0..states * 3).map(|_| numbers.mostly_below(states + 1)).collect();
+        let states: Vec<u32> = (0..states * 3).map(|_| mostly_below(&mut numbers, states + 1)).collect();
         let room = if numbers.below(4) == 0 { numbers.below(2_000) } else { 20_000 } as usize;
         let dropped = (tokens.len() / 4 * 3 + numbers.below(200) as usize).saturating_sub(4);
         let whole = if numbers.below(100) == 0 { tokens.len().saturating_sub(1) } else { tokens.len() };
