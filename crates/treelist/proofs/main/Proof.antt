@@ -1,10 +1,13 @@
 -- `main` meets its contract: the bytes that are written lie inside the buffer. Assumes nothing.
-use mathlib.Core.Path.{sym}
+use mathlib.Core.Path.{refl, sym}
 use native.Mathlib.Omega.{arith}
 use lib.Seq.{length-take-le}
 use borrow.Author.Needs.{needs}
 use Rattle.treelist.proofs.main.Statement.{statement}
 use Rattle.treelist.proofs.main.Tie as tie
+
+print-requires : tie.Need-print-requires
+print-requires c κs = (search needs, record { tree-rows = refl; dropped-rows = refl; room = search needs })
 
 array-share-prefix-out : tie.Need-array-share-prefix-out
 array-share-prefix-out c =
@@ -30,7 +33,7 @@ main-spec =
     (λ c. search needs)
     (λ c. search needs)
     (λ c. search needs)
-    (λ c κs. search needs)
+    print-requires
     array-share-prefix-out
     slice-aggregate-write-all
     (λ c κs. search needs)

@@ -12,7 +12,7 @@ use Rattle.treelist.proofs.printed.list_all.Tie as tie
 
 room : (c : tie.After-list) → length (listing (answerOf (c .before .before .before .before .before .args .answer)) (c .before .before .before .before .before .args .tree .now) (c .before .before .before .before .before .args .dropped .now)) ≤ length (c .before .before .before .before .before .args .out .now)
 room c =
-    let few = listing-few (answerOf (c .before .before .before .before .before .args .answer)) (c .before .before .before .before .before .args .tree .now) (c .before .before .before .before .before .args .dropped .now) (c .before .before .before .before .before .pre .0) (λ i. omega (arith, c .before .before .before .before .shared-slice-known .given i)) (λ i. omega (arith, c .before .before .before .shared-slice-known2 .given i)) (c .before .before .before .before .before .pre .1 .tree-rows) (c .before .before .before .before .before .pre .1 .dropped-rows) in
+    let few = listing-few (answerOf (c .before .before .before .before .before .args .answer)) (c .before .before .before .before .before .args .tree .now) (c .before .before .before .before .before .args .dropped .now) (c .before .before .before .before .before .pre .0) (λ i. omega (arith, c .before .before .before .before .shared-slice-known .given i)) (λ i. omega (arith, c .before .before .before .shared-slice-known2 .given i)) (let rows = c .before .before .before .before .before .pre .1 .tree-rows in omega arith) (let rows = c .before .before .before .before .before .pre .1 .dropped-rows in omega arith) in
     let out = c .before .before .before .before .before .pre .1 .room in
     omega arith
 
