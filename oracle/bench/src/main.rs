@@ -55,8 +55,11 @@ fn all(span: Duration) -> ExitCode {
         println!("growth {} {growth:.2}", workload.name);
     }
     for (workload, measured) in &measured {
-        let worst = measured.iter().map(Measured::port_to_mitex);
-        let worst = worst.fold(0.0, f64::max);
+        let worst = worst(measured, Measured::port_to_rest);
+        println!("ratio {} port/(whole - lexing) {worst:.2}", workload.name);
+    }
+    for (workload, measured) in &measured {
+        let worst = worst(measured, Measured::port_to_mitex);
         println!("ratio {} port/mitex {worst:.2}", workload.name);
     }
     let (_, binder) = &measured[0];
@@ -64,6 +67,11 @@ fn all(span: Duration) -> ExitCode {
     let binder = binder[at.expect("the binder's size")];
     println!("ratio {BINDER} port/vec {:.2}", binder.port_to_vec());
     ExitCode::SUCCESS
+}
+
+/// The greatest ratio over the sizes.
+fn worst(measured: &[Measured], ratio: fn(&Measured) -> f64) -> f64 {
+    measured.iter().map(ratio).fold(0.0, f64::max)
 }
 
 fn sizes(workload: &Workload, span: Duration) -> Vec<Measured> {

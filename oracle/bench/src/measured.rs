@@ -25,6 +25,12 @@ impl Measured {
         self.port.as_secs_f64() / self.mitex.as_secs_f64()
     }
 
+    /// To the Rust's parser with its lexer, less that lexer's time alone.
+    pub fn port_to_rest(&self) -> f64 {
+        let rest = self.whole.saturating_sub(self.lexing);
+        self.port.as_secs_f64() / rest.as_secs_f64()
+    }
+
     pub fn port_to_vec(&self) -> f64 {
         self.port.as_secs_f64() / self.vec.as_secs_f64()
     }
