@@ -1,7 +1,10 @@
--- The measures of the cycle, and what each member is given and asks.
+-- The measures of the cycle, and what each member is given and asks. What falls is the number of nodes that may yet be opened; of members that call each
+-- other in one node the caller has the higher rank.
 use Prim.Native.Nat.{ℕ, _<_, _+_, _*_, _-_}
-use borrow.Fn.Kinds.{In}
+use mathlib.Core.List.{List}
+use borrow.Fn.Kinds.{In, PK}
 use Rattle.rules.specs.Limits.{nodes}
+use Rattle.routines.specs.declared.state.Parser.{Parser}
 use borrow.Fn.PlainCycle.{Measures, is, falls, and}
 use Rattle.parser.proofs.argument.Reads as argument
 use Rattle.parser.proofs.argument.Kinds as argument-kinds
@@ -42,248 +45,190 @@ use Rattle.parser.proofs.piece.Kinds as piece-kinds
 use Rattle.parser.proofs.script.Reads as script
 use Rattle.parser.proofs.script.Kinds as script-kinds
 
+-- so many ranks there are
+abbrev ranks : ℕ
+ranks = 6
+
+abbrev measure : ℕ → Parser → ℕ
+measure rank p = (nodes - p .builder .depth) * ranks + rank
+
+-- each member has six lifetimes: those of the tables and the buffers
+module _ (ps : List (PK 6)) (μ : Measures 6 ps ℕ) (pre : In 6 ps) where
+  -- what a member is given where its measure is t
+  abbrev given : ℕ → In 6 ps
+  given t = and 6 ps (is 6 ps μ t) pre
+
+  -- and what it asks of a caller whose measure is t
+  abbrev asked : ℕ → In 6 ps
+  asked t = and 6 ps (falls 6 ps _<_ μ t) pre
+
 abbrev pub μ-argument : Measures 6 argument-kinds.ps ℕ
-μ-argument κs a = (nodes - a .1 .1 .1 .1 .1 .1 .0 .builder .depth) * 6
+μ-argument κs a = measure 0 (a .1 .1 .1 .1 .1 .1 .0)
 
 abbrev pub argument-at : ℕ → In 6 argument-kinds.ps
-argument-at t = and 6 argument-kinds.ps (is 6 argument-kinds.ps μ-argument t) argument.Pre
+argument-at = given argument-kinds.ps μ-argument argument.Pre
 
 abbrev pub argument-below : ℕ → In 6 argument-kinds.ps
-argument-below t =
-    and 6 argument-kinds.ps (falls 6 argument-kinds.ps _<_ μ-argument t) argument.Pre
+argument-below = asked argument-kinds.ps μ-argument argument.Pre
 
 abbrev pub μ-arguments : Measures 6 arguments-kinds.ps ℕ
-μ-arguments κs a = (nodes - a .1 .1 .1 .1 .1 .1 .0 .builder .depth) * 6 + 1
+μ-arguments κs a = measure 1 (a .1 .1 .1 .1 .1 .1 .0)
 
 abbrev pub arguments-at : ℕ → In 6 arguments-kinds.ps
-arguments-at t = and 6 arguments-kinds.ps (is 6 arguments-kinds.ps μ-arguments t) arguments.Pre
+arguments-at = given arguments-kinds.ps μ-arguments arguments.Pre
 
 abbrev pub arguments-below : ℕ → In 6 arguments-kinds.ps
-arguments-below t =
-    and 6 arguments-kinds.ps (falls 6 arguments-kinds.ps _<_ μ-arguments t) arguments.Pre
+arguments-below = asked arguments-kinds.ps μ-arguments arguments.Pre
 
 abbrev pub μ-attach-component : Measures 6 attach-component-kinds.ps ℕ
-μ-attach-component κs a = (nodes - a .1 .1 .1 .1 .1 .1 .0 .builder .depth) * 6 + 1
+μ-attach-component κs a = measure 1 (a .1 .1 .1 .1 .1 .1 .0)
 
 abbrev pub attach-component-at : ℕ → In 6 attach-component-kinds.ps
-attach-component-at t =
-    and
-    6
-    attach-component-kinds.ps
-    (is 6 attach-component-kinds.ps μ-attach-component t)
-    attach-component.Pre
+attach-component-at = given attach-component-kinds.ps μ-attach-component attach-component.Pre
 
 abbrev pub attach-component-below : ℕ → In 6 attach-component-kinds.ps
-attach-component-below t =
-    and
-    6
-    attach-component-kinds.ps
-    (falls 6 attach-component-kinds.ps _<_ μ-attach-component t)
-    attach-component.Pre
+attach-component-below = asked attach-component-kinds.ps μ-attach-component attach-component.Pre
 
 abbrev pub μ-attachment : Measures 6 attachment-kinds.ps ℕ
-μ-attachment κs a = (nodes - a .1 .1 .1 .1 .1 .1 .0 .builder .depth) * 6
+μ-attachment κs a = measure 0 (a .1 .1 .1 .1 .1 .1 .0)
 
 abbrev pub attachment-at : ℕ → In 6 attachment-kinds.ps
-attachment-at t =
-    and 6 attachment-kinds.ps (is 6 attachment-kinds.ps μ-attachment t) attachment.Pre
+attachment-at = given attachment-kinds.ps μ-attachment attachment.Pre
 
 abbrev pub attachment-below : ℕ → In 6 attachment-kinds.ps
-attachment-below t =
-    and 6 attachment-kinds.ps (falls 6 attachment-kinds.ps _<_ μ-attachment t) attachment.Pre
+attachment-below = asked attachment-kinds.ps μ-attachment attachment.Pre
 
 abbrev pub μ-begin : Measures 6 begin-kinds.ps ℕ
-μ-begin κs a = (nodes - a .1 .1 .1 .1 .1 .1 .0 .builder .depth) * 6
+μ-begin κs a = measure 0 (a .1 .1 .1 .1 .1 .1 .0)
 
 abbrev pub begin-at : ℕ → In 6 begin-kinds.ps
-begin-at t =
-    and 6 begin-kinds.ps (is 6 begin-kinds.ps μ-begin t) begin.Pre
+begin-at = given begin-kinds.ps μ-begin begin.Pre
 
 abbrev pub begin-below : ℕ → In 6 begin-kinds.ps
-begin-below t =
-    and
-    6
-    begin-kinds.ps
-    (falls 6 begin-kinds.ps _<_ μ-begin t)
-    begin.Pre
+begin-below = asked begin-kinds.ps μ-begin begin.Pre
 
 abbrev pub μ-command : Measures 6 command-kinds.ps ℕ
-μ-command κs a = (nodes - a .1 .1 .1 .1 .1 .1 .0 .builder .depth) * 6 + 2
+μ-command κs a = measure 2 (a .1 .1 .1 .1 .1 .1 .0)
 
 abbrev pub command-at : ℕ → In 6 command-kinds.ps
-command-at t = and 6 command-kinds.ps (is 6 command-kinds.ps μ-command t) command.Pre
+command-at = given command-kinds.ps μ-command command.Pre
 
 abbrev pub command-below : ℕ → In 6 command-kinds.ps
-command-below t = and 6 command-kinds.ps (falls 6 command-kinds.ps _<_ μ-command t) command.Pre
+command-below = asked command-kinds.ps μ-command command.Pre
 
 abbrev pub μ-content : Measures 6 content-kinds.ps ℕ
-μ-content κs a = (nodes - a .1 .1 .1 .1 .1 .1 .0 .builder .depth) * 6 + 3
+μ-content κs a = measure 3 (a .1 .1 .1 .1 .1 .1 .0)
 
 abbrev pub content-at : ℕ → In 6 content-kinds.ps
-content-at t = and 6 content-kinds.ps (is 6 content-kinds.ps μ-content t) content.Pre
+content-at = given content-kinds.ps μ-content content.Pre
 
 abbrev pub content-below : ℕ → In 6 content-kinds.ps
-content-below t = and 6 content-kinds.ps (falls 6 content-kinds.ps _<_ μ-content t) content.Pre
+content-below = asked content-kinds.ps μ-content content.Pre
 
 abbrev pub μ-environment : Measures 6 environment-kinds.ps ℕ
-μ-environment κs a = (nodes - a .1 .1 .1 .1 .1 .1 .0 .builder .depth) * 6
+μ-environment κs a = measure 0 (a .1 .1 .1 .1 .1 .1 .0)
 
 abbrev pub environment-at : ℕ → In 6 environment-kinds.ps
-environment-at t =
-    and 6 environment-kinds.ps (is 6 environment-kinds.ps μ-environment t) environment.Pre
+environment-at = given environment-kinds.ps μ-environment environment.Pre
 
 abbrev pub environment-below : ℕ → In 6 environment-kinds.ps
-environment-below t =
-    and 6 environment-kinds.ps (falls 6 environment-kinds.ps _<_ μ-environment t) environment.Pre
+environment-below = asked environment-kinds.ps μ-environment environment.Pre
 
 abbrev pub μ-begin-arguments : Measures 6 begin-arguments-kinds.ps ℕ
-μ-begin-arguments κs a = (nodes - a .1 .1 .1 .1 .1 .1 .0 .builder .depth) * 6 + 3
+μ-begin-arguments κs a = measure 3 (a .1 .1 .1 .1 .1 .1 .0)
 
 abbrev pub begin-arguments-at : ℕ → In 6 begin-arguments-kinds.ps
-begin-arguments-at t =
-    and
-    6
-    begin-arguments-kinds.ps
-    (is 6 begin-arguments-kinds.ps μ-begin-arguments t)
-    begin-arguments.Pre
+begin-arguments-at = given begin-arguments-kinds.ps μ-begin-arguments begin-arguments.Pre
 
 abbrev pub begin-arguments-below : ℕ → In 6 begin-arguments-kinds.ps
-begin-arguments-below t =
-    and
-    6
-    begin-arguments-kinds.ps
-    (falls 6 begin-arguments-kinds.ps _<_ μ-begin-arguments t)
-    begin-arguments.Pre
+begin-arguments-below = asked begin-arguments-kinds.ps μ-begin-arguments begin-arguments.Pre
 
 abbrev pub μ-greedy-rest : Measures 6 greedy-rest-kinds.ps ℕ
-μ-greedy-rest κs a = (nodes - a .1 .1 .1 .1 .1 .1 .0 .builder .depth) * 6
+μ-greedy-rest κs a = measure 0 (a .1 .1 .1 .1 .1 .1 .0)
 
 abbrev pub greedy-rest-at : ℕ → In 6 greedy-rest-kinds.ps
-greedy-rest-at t =
-    and
-    6
-    greedy-rest-kinds.ps
-    (is 6 greedy-rest-kinds.ps μ-greedy-rest t)
-    greedy-rest.Pre
+greedy-rest-at = given greedy-rest-kinds.ps μ-greedy-rest greedy-rest.Pre
 
 abbrev pub greedy-rest-below : ℕ → In 6 greedy-rest-kinds.ps
-greedy-rest-below t =
-    and
-    6
-    greedy-rest-kinds.ps
-    (falls 6 greedy-rest-kinds.ps _<_ μ-greedy-rest t)
-    greedy-rest.Pre
+greedy-rest-below = asked greedy-rest-kinds.ps μ-greedy-rest greedy-rest.Pre
 
 abbrev pub μ-greedy-command : Measures 6 greedy-command-kinds.ps ℕ
-μ-greedy-command κs a = (nodes - a .1 .1 .1 .1 .1 .1 .0 .builder .depth) * 6 + 1
+μ-greedy-command κs a = measure 1 (a .1 .1 .1 .1 .1 .1 .0)
 
 abbrev pub greedy-command-at : ℕ → In 6 greedy-command-kinds.ps
-greedy-command-at t =
-    and
-    6
-    greedy-command-kinds.ps
-    (is 6 greedy-command-kinds.ps μ-greedy-command t)
-    greedy-command.Pre
+greedy-command-at = given greedy-command-kinds.ps μ-greedy-command greedy-command.Pre
 
 abbrev pub greedy-command-below : ℕ → In 6 greedy-command-kinds.ps
-greedy-command-below t =
-    and
-    6
-    greedy-command-kinds.ps
-    (falls 6 greedy-command-kinds.ps _<_ μ-greedy-command t)
-    greedy-command.Pre
+greedy-command-below = asked greedy-command-kinds.ps μ-greedy-command greedy-command.Pre
 
 abbrev pub μ-item-group : Measures 6 item-group-kinds.ps ℕ
-μ-item-group κs a = (nodes - a .1 .1 .1 .1 .1 .1 .0 .builder .depth) * 6
+μ-item-group κs a = measure 0 (a .1 .1 .1 .1 .1 .1 .0)
 
 abbrev pub item-group-at : ℕ → In 6 item-group-kinds.ps
-item-group-at t =
-    and 6 item-group-kinds.ps (is 6 item-group-kinds.ps μ-item-group t) item-group.Pre
+item-group-at = given item-group-kinds.ps μ-item-group item-group.Pre
 
 abbrev pub item-group-below : ℕ → In 6 item-group-kinds.ps
-item-group-below t =
-    and 6 item-group-kinds.ps (falls 6 item-group-kinds.ps _<_ μ-item-group t) item-group.Pre
+item-group-below = asked item-group-kinds.ps μ-item-group item-group.Pre
 
 abbrev pub μ-item-list : Measures 6 item-list-kinds.ps ℕ
-μ-item-list κs a = (nodes - a .1 .1 .1 .1 .1 .1 .0 .builder .depth) * 6 + 5
+μ-item-list κs a = measure 5 (a .1 .1 .1 .1 .1 .1 .0)
 
 abbrev pub item-list-at : ℕ → In 6 item-list-kinds.ps
-item-list-at t = and 6 item-list-kinds.ps (is 6 item-list-kinds.ps μ-item-list t) item-list.Pre
+item-list-at = given item-list-kinds.ps μ-item-list item-list.Pre
 
 abbrev pub item-list-below : ℕ → In 6 item-list-kinds.ps
-item-list-below t =
-    and 6 item-list-kinds.ps (falls 6 item-list-kinds.ps _<_ μ-item-list t) item-list.Pre
+item-list-below = asked item-list-kinds.ps μ-item-list item-list.Pre
 
 abbrev pub μ-item-lr : Measures 6 item-lr-kinds.ps ℕ
-μ-item-lr κs a = (nodes - a .1 .1 .1 .1 .1 .1 .0 .builder .depth) * 6
+μ-item-lr κs a = measure 0 (a .1 .1 .1 .1 .1 .1 .0)
 
 abbrev pub item-lr-at : ℕ → In 6 item-lr-kinds.ps
-item-lr-at t = and 6 item-lr-kinds.ps (is 6 item-lr-kinds.ps μ-item-lr t) item-lr.Pre
+item-lr-at = given item-lr-kinds.ps μ-item-lr item-lr.Pre
 
 abbrev pub item-lr-below : ℕ → In 6 item-lr-kinds.ps
-item-lr-below t = and 6 item-lr-kinds.ps (falls 6 item-lr-kinds.ps _<_ μ-item-lr t) item-lr.Pre
+item-lr-below = asked item-lr-kinds.ps μ-item-lr item-lr.Pre
 
 abbrev pub μ-items : Measures 6 items-kinds.ps ℕ
-μ-items κs a = (nodes - a .1 .1 .1 .1 .1 .1 .0 .builder .depth) * 6 + 4
+μ-items κs a = measure 4 (a .1 .1 .1 .1 .1 .1 .0)
 
 abbrev pub items-at : ℕ → In 6 items-kinds.ps
-items-at t = and 6 items-kinds.ps (is 6 items-kinds.ps μ-items t) items.Pre
+items-at = given items-kinds.ps μ-items items.Pre
 
 abbrev pub items-below : ℕ → In 6 items-kinds.ps
-items-below t = and 6 items-kinds.ps (falls 6 items-kinds.ps _<_ μ-items t) items.Pre
+items-below = asked items-kinds.ps μ-items items.Pre
 
 abbrev pub μ-match-arguments : Measures 6 match-arguments-kinds.ps ℕ
-μ-match-arguments κs a = (nodes - a .1 .1 .1 .1 .1 .1 .0 .builder .depth) * 6 + 2
+μ-match-arguments κs a = measure 2 (a .1 .1 .1 .1 .1 .1 .0)
 
 abbrev pub match-arguments-at : ℕ → In 6 match-arguments-kinds.ps
-match-arguments-at t =
-    and
-    6
-    match-arguments-kinds.ps
-    (is 6 match-arguments-kinds.ps μ-match-arguments t)
-    match-arguments.Pre
+match-arguments-at = given match-arguments-kinds.ps μ-match-arguments match-arguments.Pre
 
 abbrev pub match-arguments-below : ℕ → In 6 match-arguments-kinds.ps
-match-arguments-below t =
-    and
-    6
-    match-arguments-kinds.ps
-    (falls 6 match-arguments-kinds.ps _<_ μ-match-arguments t)
-    match-arguments.Pre
+match-arguments-below = asked match-arguments-kinds.ps μ-match-arguments match-arguments.Pre
 
 abbrev pub μ-matched : Measures 6 matched-kinds.ps ℕ
-μ-matched κs a = (nodes - a .1 .1 .1 .1 .1 .1 .0 .builder .depth) * 6
+μ-matched κs a = measure 0 (a .1 .1 .1 .1 .1 .1 .0)
 
 abbrev pub matched-at : ℕ → In 6 matched-kinds.ps
-matched-at t =
-    and
-    6
-    matched-kinds.ps
-    (is 6 matched-kinds.ps μ-matched t)
-    matched.Pre
+matched-at = given matched-kinds.ps μ-matched matched.Pre
 
 abbrev pub matched-below : ℕ → In 6 matched-kinds.ps
-matched-below t =
-    and
-    6
-    matched-kinds.ps
-    (falls 6 matched-kinds.ps _<_ μ-matched t)
-    matched.Pre
+matched-below = asked matched-kinds.ps μ-matched matched.Pre
 
 abbrev pub μ-piece : Measures 6 piece-kinds.ps ℕ
-μ-piece κs a = (nodes - a .1 .1 .1 .1 .1 .1 .0 .builder .depth) * 6 + 4
+μ-piece κs a = measure 4 (a .1 .1 .1 .1 .1 .1 .0)
 
 abbrev pub piece-at : ℕ → In 6 piece-kinds.ps
-piece-at t = and 6 piece-kinds.ps (is 6 piece-kinds.ps μ-piece t) piece.Pre
+piece-at = given piece-kinds.ps μ-piece piece.Pre
 
 abbrev pub piece-below : ℕ → In 6 piece-kinds.ps
-piece-below t = and 6 piece-kinds.ps (falls 6 piece-kinds.ps _<_ μ-piece t) piece.Pre
+piece-below = asked piece-kinds.ps μ-piece piece.Pre
 
 abbrev pub μ-script : Measures 6 script-kinds.ps ℕ
-μ-script κs a = (nodes - a .1 .1 .1 .1 .1 .1 .0 .builder .depth) * 6 + 4
+μ-script κs a = measure 4 (a .1 .1 .1 .1 .1 .1 .0)
 
 abbrev pub script-at : ℕ → In 6 script-kinds.ps
-script-at t = and 6 script-kinds.ps (is 6 script-kinds.ps μ-script t) script.Pre
+script-at = given script-kinds.ps μ-script script.Pre
 
 abbrev pub script-below : ℕ → In 6 script-kinds.ps
-script-below t = and 6 script-kinds.ps (falls 6 script-kinds.ps _<_ μ-script t) script.Pre
+script-below = asked script-kinds.ps μ-script script.Pre
