@@ -15,7 +15,7 @@ use Rattle.rules.specs.Reading as spec
 use Rattle.rules.specs.Routines.{holdTrivia}
 use Rattle.lexer.specs.Reading.{cursorOf}
 use Rattle.lexer.proofs.Laws.{left-some}
-use Rattle.syntax.specs.ParseScope.{scopeOf}
+use Rattle.syntax.specs.ParseScope.{scopeAt}
 use Rattle.routines.specs.Stands.{Buffers, posOf}
 use Rattle.routines.specs.Change.{relexed}
 use Rattle.routines.specs.Contract.{Ready, Left, Holding, Runs, leftOf}
@@ -62,7 +62,7 @@ module _ (t : Tables) (p : Parser) (first : Matcher) (b : Buffers) where
     pub at-end : peek (t .tokens) (cursorOf (q .lexer)) ≡ none → Chosen ends
     at-end e n d = rw e
 
-    pub by-kind : {kind : ℕ} {c : Choice} → peek (t .tokens) (cursorOf (q .lexer)) ≡ some kind → choose (t .states) (scopeOf (q .list .scope)) m kind ≡ c → Chosen c
+    pub by-kind : {kind : ℕ} {c : Choice} → peek (t .tokens) (cursorOf (q .lexer)) ≡ some kind → choose (t .states) (scopeAt (q .list .scope)) m kind ≡ c → Chosen c
     by-kind e chosen n d = rw e chosen
 
     -- ---- they end

@@ -7,7 +7,6 @@ use lib.ListN.{length}
 use Rattle.rules.specs.Limits.{nodes}
 use Rattle.rules.specs.Outcome.{Out, went, refused, bind}
 use Rattle.rules.specs.Checks.{Tables, sourceOf}
-use Rattle.syntax.specs.declared.parse_scope.ParseScope.{ParseScope}
 use Rattle.routines.specs.Stands.{Buffers, Here, posOf, outOf}
 use Rattle.routines.specs.Change.{relisted, remarked, unheld}
 use Rattle.routines.specs.Contract.{MarkOk, Ready, Left, Ended, Gone, Runs, Ran, RuleOf}
@@ -57,7 +56,7 @@ opened f inner rest n d q = same-after (f n d q) _ _ (unnested inner rest n d)
 -- ---- a node is ended before the last step
 
 -- the callee went, and ended the node that the routine opened: it is in its own again
-pub leaves-node : {t : Tables} {rule f : Rule} {rest : List Rule} {gain : ℕ} {scope : ParseScope} {s : Parser} {m : Buffers} {u : Parser} {v : Buffers} {r : Step} {x : Buffers} {z : Parser}
+pub leaves-node : {t : Tables} {rule f : Rule} {rest : List Rule} {gain : ℕ} {scope : ℕ} {s : Parser} {m : Buffers} {u : Parser} {v : Buffers} {r : Step} {x : Buffers} {z : Parser}
     → Ready t s m → Walk t rule (f ∷ rest) gain 1 scope s m u v → Call t f 1 (λ q. Ended t (s .builder .first) (s .builder .node) u v q x) u v r x → r ≡ Went z
     → Walk t rule rest gain 0 scope s m z x
 leaves-node {gain = gain} ready w k e =
@@ -81,7 +80,7 @@ leaves-node {gain = gain} ready w k e =
 
 -- ---- steps that call nothing
 
-module _ {t : Tables} {rule f : Rule} {rest : List Rule} {gain lift : ℕ} {scope : ParseScope} {s : Parser} {m : Buffers} {u : Parser} {v : Buffers} (w : Walk t rule (f ∷ rest) gain lift scope s m u v) where
+module _ {t : Tables} {rule f : Rule} {rest : List Rule} {gain lift : ℕ} {scope : ℕ} {s : Parser} {m : Buffers} {u : Parser} {v : Buffers} (w : Walk t rule (f ∷ rest) gain lift scope s m u v) where
   -- what is left once such a step is made
   stepped : (z : Parser) → ((n d : ℕ) → f n d (posOf u v) ≡ went (posOf z v)) → (d : ℕ) → nodes ≤ s .builder .depth + d → rule (length (m .tree)) d (posOf s m) ≡ line rest (length (m .tree)) d (posOf z v)
   unfolding line

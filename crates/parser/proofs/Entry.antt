@@ -1,9 +1,6 @@
 -- What a member of the cycle hands to a routine outside it. Assumes nothing.
 use mathlib.Core.List.{List}
 use Prim.Native.Nat.{ℕ}
-use native.Mathlib.Omega.{arith}
-use Rattle.builder.specs.Contract.{Inside}
-use Rattle.routines.specs.Stands.{Buffers}
 use Rattle.rules.specs.Checks.{Tables}
 use Rattle.rules.specs.Tables.{kindAt}
 use Rattle.rules.specs.Token.{Word}
@@ -20,16 +17,12 @@ pub somehow : {sees : Tables → Type 0} {t : Tables} {p : Parser} {tree dropped
 somehow {t = t} {dropped = dropped} seen ready = record { t = t; notes = dropped; seen = seen; ready = ready }
 
 -- a Word that is next is next for a parser that reads at the same place
-pub word-there : (what : Piece) (t : Tables) (p q : Parser) → q .lexer ≡ p .lexer → WordIf what t p → WordIf what t q
-word-there Character t p q same is = rw same is
-word-there (Within-scope scope) t p q same is = is
-word-there Brace t p q same is = is
-word-there Item t p q same is = is
+pub word-still : (what : Piece) (t : Tables) (p q : Parser) → q .lexer ≡ p .lexer → WordIf what t p → WordIf what t q
+word-still Character t p q same is = rw same is
+word-still (Within-scope scope) t p q same is = is
+word-still Brace t p q same is = is
+word-still Item t p q same is = is
 
 -- where a character is to be taken, a Word is next
-pub word-next : (what : Piece) (t : Tables) (p : Parser) → what ≡ Character → WordIf what t p → kindAt (t .tokens) (p .lexer .token) ≡ Word
-word-next what t p e is = rw e at is
-
--- a mark that is made here
-pub mark-here : {t : Tables} {p : Parser} {m : Buffers} → Ready t p m → Inside (record { children = p .builder .children; row = p .builder .rows }) (p .builder)
-mark-here ready = let children = ready .steady .fits .children in record { children = omega arith; row = omega arith }
+pub word-for : (what : Piece) (t : Tables) (p : Parser) → what ≡ Character → WordIf what t p → kindAt (t .tokens) (p .lexer .token) ≡ Word
+word-for what t p e is = rw e at is

@@ -14,7 +14,6 @@ use Rattle.rules.specs.Position.{steps}
 use Rattle.rules.specs.Reading as spec
 use Rattle.rules.specs.Scope as scopes
 use Rattle.rules.specs.SyntaxKind as kinds
-use Rattle.syntax.specs.declared.parse_scope.ParseScope.{ParseScope}
 use Rattle.lexer.proofs.Laws.{start-fine}
 use Rattle.routines.specs.Contract.{Steady, Begun, Ended, Opens}
 use Rattle.routines.specs.Stands.{Buffers, Here, posOf, outOf}
@@ -23,6 +22,7 @@ use Rattle.routines.specs.declared.state.Step.{Step}
 use Rattle.routines.specs.declared.state.Step.the-variants.{Went, Refused}
 use Rattle.routines.proofs.Walk.{Rule, line, Walk, Call, Stopped, stop, stopped, gone-map, passed-then, steps-on, stops-is, leaves}
 use Rattle.parser.specs.Member.{innerAt}
+use Rattle.parser.proofs.Marks.{no-mark}
 use Rattle.parser.specs.Root.{atRoot, Readable, Written, Parsed}
 
 -- the rule, as its steps
@@ -48,8 +48,8 @@ root-steady readable =
       fine = start-fine (good .sound);
       token = omega arith;
       fits = record { room = omega arith; leaves = omega arith; children = omega arith };
-      start = tt;
-      last = tt;
+      start = no-mark (atRoot .builder);
+      last = no-mark (atRoot .builder);
       dropped = omega arith;
       notes = readable .room;
       light = omega arith;
@@ -75,7 +75,7 @@ roots {t} {f} {rest} {s} {m} {r} {x} {z} steady k e =
     }
 
 -- the last step, whatever it comes to
-last-is : {t : Tables} {rule f : Rule} {gain : ℕ} {scope : ParseScope} {s : Parser} {m : Buffers} {u : Parser} {v : Buffers} {Q : Parser → Type 0} {x : Buffers} (r : Step)
+last-is : {t : Tables} {rule f : Rule} {gain : ℕ} {scope : ℕ} {s : Parser} {m : Buffers} {u : Parser} {v : Buffers} {Q : Parser → Type 0} {x : Buffers} (r : Step)
     → Walk t rule (f ∷ []) gain 1 scope s m u v → Call t f 1 Q u v r x → (d : ℕ) → nodes ≤ s .builder .depth + d → rule (length (m .tree)) d (posOf s m) ≡ outOf r x
 unfolding line
 last-is (Went q) w k d h = steps-on w k refl d h
@@ -88,12 +88,12 @@ module _ {t : Tables} {m : Buffers} {r : Step} {x : Buffers} where
   root-refused {v} steady k st = record { is = plan-is t m (length (m .tree)) ∙ stop _ _ _ v x (k .told t steady .is) st; gone = stopped _ _ st }
 
   -- a step inside it was refused
-  pub parsed-refused : {f : Rule} {rest : List Rule} {gain : ℕ} {scope : ParseScope} {u : Parser} {v y : Buffers} {Q : Parser → Type 0}
+  pub parsed-refused : {f : Rule} {rest : List Rule} {gain : ℕ} {scope : ℕ} {u : Parser} {v y : Buffers} {Q : Parser → Type 0}
       → Walk t (line (plan t)) (f ∷ rest) gain 1 scope atRoot m u v → Call t f 1 Q u v r y → Stopped r → Parsed t m r x
   parsed-refused w k st = record { is = plan-is t m (length (m .tree)) ∙ stops-is w k st x nodes (omega arith); gone = stopped _ _ st }
 
   -- the root was ended
-  pub parsed : {f : Rule} {gain : ℕ} {scope : ParseScope} {u : Parser} {v : Buffers} {first node : ℕ}
+  pub parsed : {f : Rule} {gain : ℕ} {scope : ℕ} {u : Parser} {v : Buffers} {first node : ℕ}
       → Walk t (line (plan t)) (f ∷ []) gain 1 scope atRoot m u v → Call t f 1 (λ q. Ended t first node u v q x) u v r x → Parsed t m r x
   parsed w k =
       record {

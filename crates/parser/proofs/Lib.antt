@@ -4,7 +4,9 @@ pub mod ArgumentLoop
 pub mod Choices
 pub mod Cycle
 pub mod Entry
+pub mod Extents
 pub mod ItemLoop
 pub mod Marks
+pub mod Scripts
 pub mod WordLoop
 pub mod FromRoot

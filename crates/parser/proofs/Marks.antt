@@ -1,19 +1,38 @@
--- What last is behind an item: laws over the state. Assumes nothing.
+-- Marks: those that are made here, none, and what last is behind an item. Assumes nothing.
 use mathlib.Core.Path.{_≡_, refl}
 use mathlib.Core.Bool.{Bool, true, false}
 use mathlib.Core.List.{List}
 use mathlib.Core.Logic.{inl, inr}
-use Prim.Native.Nat.{ℕ}
+use Prim.Native.Nat.{ℕ, _<_}
+use borrow.Author.Tests.{ne-eqb}
+use native.Mathlib.Omega.{arith}
 use Rattle.rules.specs.Checks.{Tables, shapeOf}
 use Rattle.rules.specs.Items.{attachable}
 use Rattle.rules.specs.Tables.{kindAt}
 use Rattle.items.specs.Items.{shapeFor}
 use Rattle.items.specs.declared.shape.Shape.{Shape}
-use Rattle.builder.specs.declared.Checkpoint.{Checkpoint}
 use Rattle.routines.specs.Change.{remarked}
-use Rattle.routines.specs.declared.state.Mark.the-variants.{At}
+use Rattle.builder.specs.declared.GreenNodeBuilder.{GreenNodeBuilder}
+use Rattle.routines.specs.Contract.{MarkOk, Ready}
+use Rattle.routines.specs.Stands.{Buffers, isNothing, noMark}
+use Rattle.routines.specs.declared.state.Mark.{Mark}
 use Rattle.routines.specs.declared.state.Parser.{Parser}
-use Rattle.parser.specs.Member.{LastAfter}
+use Rattle.parser.specs.Member.{LastAfter, markHere}
+
+-- a mark that is made here
+pub mark-here : {t : Tables} {p : Parser} {m : Buffers} → Ready t p m → MarkOk (markHere p) (p .builder)
+mark-here ready = let children = ready .steady .fits .children in record { children = omega arith; row = omega arith }
+
+-- it is one where a row was written before it, so where a node is open
+there : (p : Parser) → 0 < p .builder .rows → isNothing (markHere p) ≡ false
+there p written = ne-eqb (p .builder .rows) 0 (λ e. omega arith)
+
+pub is-mark : {t : Tables} {p : Parser} {m : Buffers} → Ready t p m → isNothing (markHere p) ≡ false
+is-mark {p = p} ready = let node = ready .within .node in there p (omega arith)
+
+-- no mark is good everywhere
+pub no-mark : (b : GreenNodeBuilder) → MarkOk noMark b
+no-mark b = record { children = omega arith; row = omega arith }
 
 -- attachable, asked of a kind and the code's shape
 abbrev pub attached : ℕ → Shape → Bool
@@ -28,11 +47,10 @@ module _ {tokens shapes : List ℕ} {shape : Shape} (p q : Parser)
       let same : shapeOf t (p .lexer .token) ≡ shapeOf (record { text = t .text; tokens = tokens; shapes = shapes; states = t .states }) (p .lexer .token) = rw (← seen-tokens, ← seen-shapes) refl in
       rw (same, ← shape-is (t .text) (t .states), seen-tokens) e
 
-  pub last-moved : {at : Checkpoint} {r : Parser} → attached (kindAt tokens (p .lexer .token)) shape ≡ true → at ≡ record { children = p .builder .children; row = p .builder .rows } → r ≡ remarked q (q .list .start) (At at)
-      → LastAfter tokens shapes p q r
-  last-moved said at-is r-is =
-      rw (r-is, at-is)
-      (record { is = λ t seen-tokens seen-shapes n m v. rw (asks t seen-tokens seen-shapes true said); last = inr refl; same = refl })
+  pub last-moved : {mark : Mark} {r : Parser} → attached (kindAt tokens (p .lexer .token)) shape ≡ true → 0 < p .builder .rows → mark ≡ markHere p → r ≡ remarked q (q .list .start) mark → LastAfter tokens shapes p q r
+  last-moved said written mark-is r-is =
+      rw (r-is, mark-is)
+      (record { is = λ t seen-tokens seen-shapes n m v. rw (asks t seen-tokens seen-shapes true said, there p written); last = inr refl; same = refl })
 
   pub last-kept : attached (kindAt tokens (p .lexer .token)) shape ≡ false → LastAfter tokens shapes p q q
   last-kept said = record { is = λ t seen-tokens seen-shapes n m v. rw (asks t seen-tokens seen-shapes false said); last = inl refl; same = refl }

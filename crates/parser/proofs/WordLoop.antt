@@ -18,7 +18,7 @@ use Rattle.rules.specs.Tables.{kindAt}
 use Rattle.rules.specs.Token.{Word}
 use Rattle.lexer.specs.Reading.{cursorOf}
 use Rattle.lexer.proofs.Laws.{peek-some, rest-length, consumed-part, further}
-use Rattle.syntax.specs.ParseScope.{scopeOf}
+use Rattle.syntax.specs.ParseScope.{scopeAt}
 use Rattle.routines.specs.Stands.{Buffers, posOf}
 use Rattle.routines.specs.Contract.{Ready, Known, Ran, Runs, leftOf}
 use Rattle.routines.specs.declared.state.Parser.{Parser}
@@ -65,7 +65,7 @@ module _ (t : Tables) where
       chosen : {tried : Tried} → tried ≡ tryMatch (t .states) m term → (n d : ℕ) → spec.choiceAt (flat n) (sourceOf t) (innerAt t n d) m (posOf q v) ≡ ifTried character tried
       chosen e =
           let here = k .before some-left in
-          by-kind t p first b (k .far) (peek-some (t .tokens) (cursorOf (q .lexer)) (here .there) ∙ ap some (here .kind)) (choose-word (t .states) (scopeOf (q .list .scope)) m ∙ ap (ifTried character) (sym e))
+          by-kind t p first b (k .far) (peek-some (t .tokens) (cursorOf (q .lexer)) (here .there) ∙ ap some (here .kind)) (choose-word (t .states) (scopeAt (q .list .scope)) m ∙ ap (ifTried character) (sym e))
 
       -- a refused character ends both loops
       pub taking-ends : matcher.refused ≡ tryMatch (t .states) m term → Runs t 0 (λ n d. allArguments t first n (innerAt t n d) (posOf p b)) p b (Went q) v

@@ -9,25 +9,26 @@ use Rattle.rules.specs.Checks.{Tables, shapeOf, sourceOf}
 use Rattle.rules.specs.Flat.{flat, Mark, frameOf}
 use Rattle.rules.specs.Items.{greedyStops, ofClass}
 use Rattle.rules.specs.Outcome.{Out, went}
-use Rattle.rules.specs.Position.{Rule, Shape, Source, steps, start, wrap, finish, holdingNone}
+use Rattle.rules.specs.Position.{Rule, Shape, Source, asked, steps, start, wrap, finish, withMarks, holdingNone}
 use Rattle.rules.specs.SyntaxKind.{ItemCmd, ItemEnd, ItemAttachComponent, ClauseArgument}
 use Rattle.rules.specs.Token.{Word, EndEnvironment, Right}
 use lib.Dec.{eqb}
 use Rattle.rules.specs.Matcher.{Matcher}
-use Rattle.rules.specs.Reading.{content, contentAt, items, lastAfter, orElse, arguments, matchArguments, greedyArgument, commandNode, attachmentNode}
-use Rattle.rules.specs.Routines.{next, turns, eat, oneIn, singleChar, text, clauseLr, startCommandAt, ignoreHoldingTrivia, extractHoldingTrivia}
+use Rattle.rules.specs.Reading.{content, contentAt, items, itemList, lastAfter, orElse, arguments, matchArguments, greedyArgument, commandNode, attachmentNode}
+use Rattle.rules.specs.Routines.{next, turns, eat, oneIn, singleChar, clauseLr, startCommandAt, ignoreHoldingTrivia, extractHoldingTrivia}
 use Rattle.rules.specs.Scope.{Scope, stops}
 use Rattle.rules.specs.Tables.{tokenCount, kindAt}
 use Rattle.items.specs.declared.choice.Piece.{Piece}
 use Rattle.items.specs.declared.choice.Piece.the-variants.{Character, Brace, Item}
 use Rattle.items.specs.declared.choice.Piece.the-variants.{Within as Within-scope}
-use Rattle.routines.specs.Stands.{Buffers, Here, posOf}
-use Rattle.routines.specs.Change.{remarked}
+use Rattle.routines.specs.Stands.{Buffers, Here, posOf, noMark, isNothing}
+use Rattle.routines.specs.Change.{relisted, remarked}
 use Rattle.routines.specs.Contract.{Runs}
 use Rattle.routines.specs.declared.state.Mark.{Mark as CodeMark}
-use Rattle.routines.specs.declared.state.Mark.the-variants.{Nothing, At}
 use Rattle.routines.specs.declared.state.ListState.{ListState}
-use Rattle.syntax.specs.declared.parse_scope.ParseScope.{ParseScope}
+use Rattle.syntax.specs.ParseScope.{numberOf, scopeOf}
+use Rattle.parser.specs.declared.lists.Extent.{Extent}
+use Rattle.parser.specs.declared.lists.Extent.the-variants.{List as Scoped, Greedy, Item as OneItem}
 use Rattle.routines.specs.declared.state.Parser.{Parser}
 use Rattle.routines.specs.declared.state.Step.{Step}
 
@@ -68,19 +69,83 @@ stopsOf false scope = stops scope
 abbrev pub goesOn : Bool → Scope → ℕ → Bool
 goesOn greedy scope kind = cond (stopsOf greedy scope kind) false true
 
+-- a mark that is made at p
+abbrev pub markHere : Parser → CodeMark
+markHere p = record { children = p .builder .children; row = p .builder .rows }
+
 -- a list of a scope that begins at p
-abbrev pub listed : ParseScope → Parser → ListState
-listed scope p = record { scope = scope; start = At (record { children = p .builder .children; row = p .builder .rows }); last = Nothing }
+abbrev pub listed : ℕ → Parser → ListState
+listed scope p = record { scope = scope; start = markHere p; last = noMark }
 
 -- the state behind an item that began at p and ended at q: by the rule, and the list's scope and start are q's
 pub record LastAfter (tokens shapes : List ℕ) (p q r : Parser) : Type 0 where
   pub is : (t : Tables) → t .tokens ≡ tokens → t .shapes ≡ shapes → (n : ℕ) (m v : Buffers) → lastAfter (flat n) (sourceOf t) (posOf p m) (posOf q v) ≡ posOf r v
-  pub last : (r .list .last ≡ q .list .last) ⊎ (r .list .last ≡ At (record { children = p .builder .children; row = p .builder .rows }))
+  pub last : (r .list .last ≡ q .list .last) ⊎ (r .list .last ≡ markHere p)
   pub same : r ≡ remarked q (q .list .start) (r .list .last)
 
 -- the items of a list from here on, with turns enough
 abbrev pub listItems : Tables → Bool → Inside
 listItems t greedy n inner q = items (flat n) (sourceOf t) inner (stopsOf greedy (q .list .scope)) (turns (flat n) (sourceOf t) q) q
+
+-- ---- how far is read
+
+-- so much is read at least
+abbrev pub gainOf : Extent → ℕ
+gainOf (Scoped scope) = 0
+gainOf Greedy = 0
+gainOf OneItem = 1
+
+-- where one item is read, a token is next
+abbrev pub NextIf : Extent → Tables → Parser → Type 0
+NextIf (Scoped scope) t p = Unit {0}
+NextIf Greedy t p = Unit {0}
+NextIf OneItem t p = Next t p
+
+-- whether an item is read next, the first or a later one
+abbrev pub more : Extent → Bool → Scope → Option ℕ → Bool
+more (Scoped s) first scope kind = asked (goesOn false scope) kind
+more Greedy first scope kind = asked (goesOn true scope) kind
+more OneItem first scope kind = first
+
+-- what the first item is read in
+abbrev pub opened : Extent → Parser → Parser
+opened (Scoped scope) p = relisted p (listed (numberOf scope) p)
+opened Greedy p = relisted p (listed (p .list .scope) p)
+opened OneItem p = p
+
+-- what is given back behind the last item
+abbrev pub closed : Extent → Parser → Parser → Parser
+closed (Scoped scope) p q = relisted q (p .list)
+closed Greedy p q = remarked q (p .list .start) noMark
+closed OneItem p q = q
+
+-- the state behind an item
+abbrev pub Behind : Extent → (tokens shapes : List ℕ) (p q r : Parser) → Type 0
+Behind (Scoped scope) tokens shapes p q r = LastAfter tokens shapes p q r
+Behind Greedy tokens shapes p q r = LastAfter tokens shapes p q r
+Behind OneItem tokens shapes p q r = r ≡ q
+
+-- the items that a loop reads
+abbrev pub itemsOf : Tables → Extent → Inside
+itemsOf t (Scoped scope) n inner q = listItems t false n inner q
+itemsOf t Greedy n inner q = listItems t true n inner q
+itemsOf t OneItem n inner q = inner false q
+
+-- all that a greedy command takes, with a start mark of its own
+abbrev pub greedyItems : Tables → Inside
+greedyItems t n inner q =
+    steps
+    ((λ u. went (withMarks (flat n) (some (flat n .mark (u .built))) none u))
+    ∷ (λ u. listItems t true n inner u)
+    ∷ (λ u. went (withMarks (flat n) (q .list .start) none u))
+    ∷ [])
+    q
+
+-- what an extent reads
+abbrev pub insideOf : Tables → Extent → Inside
+insideOf t (Scoped scope) n inner q = itemList (flat n) (sourceOf t) inner (scopeOf scope) q
+insideOf t Greedy n inner q = greedyItems t n inner q
+insideOf t OneItem n inner q = inner false q
 
 -- ---- arguments
 
@@ -96,6 +161,10 @@ WordIf Brace t p = Unit {0}
 WordIf Item t p = Unit {0}
 
 -- ---- commands and attachments
+
+-- a Word
+abbrev pub isWord : ℕ → Bool
+isWord kind = eqb kind Word
 
 -- a greedy command, around what stands from a mark on if there is one
 abbrev pub greedyCommand : Tables → Option Mark → Inside
@@ -126,8 +195,7 @@ shapeIn t class p = ofClass class (shapeOf t (p .lexer .token))
 
 -- a mark where one is, else another
 abbrev pub orMark : CodeMark → CodeMark → CodeMark
-orMark Nothing other = other
-orMark (At m) other = At m
+orMark mark other = cond (isNothing mark) other mark
 
 -- ---- rules with no item inside, as the code's functions outside the cycle follow them
 
@@ -138,10 +206,6 @@ endOf s n q = cond (next (flat n) s (eqb EndEnvironment) q) (oneIn (flat n) s It
 -- the right delimiter, where it is next
 abbrev pub rightOf : Source → ℕ → Here → Out Here
 rightOf s n q = cond (next (flat n) s (eqb Right) q) (clauseLr (flat n) s q) (went q)
-
--- a Word: a text, or one character where a script is read
-abbrev pub aWord : Bool → Source → ℕ → Here → Out Here
-aWord single s n q = cond single (singleChar (flat n) s q) (text (flat n) s q)
 
 -- a command that wraps what stands before it
 abbrev pub leftOne : Source → ℕ → Here → Out Here

@@ -2,14 +2,17 @@
 ghost use mathlib.Core.Path.{_≡_};
 ghost use mathlib.Core.List.{List};
 ghost use Prim.Native.Nat.{ℕ, _<_};
-ghost use Rattle.rules.specs.Cursor.{peekText};
+ghost use Rattle.rules.specs.Cursor.{peek, peekText};
+ghost use Rattle.rules.specs.Flat.{flat};
+ghost use Rattle.rules.specs.Position.{asked};
+ghost use Rattle.rules.specs.Routines.{singleChar};
 ghost use Rattle.rules.specs.Tables.{tokenCount, kindAt};
 ghost use Rattle.rules.specs.Token.{Word as wordKind};
 ghost use Rattle.builder.specs.Contract.{Fits, Within};
 ghost use Rattle.lexer.specs.Reading.{cursorOf};
 ghost use Rattle.routines.specs.Contract.{MarkOk, Ran, Opens, Known, Somehow, Holding};
 ghost use Rattle.routines.specs.Stands.{markOf};
-ghost use Rattle.parser.specs.Member.{startAttachAt, orMark, endOf, rightOf, aWord, leftOne, aCharacter};
+ghost use Rattle.parser.specs.Member.{isWord, startAttachAt, orMark, endOf, rightOf, leftOne, aCharacter};
 use lexer::Peeked;
 use routines::Mark;
 use routines::Parser;
@@ -53,15 +56,23 @@ pub fn right_clause(text: &[u8], tokens: &[u32], tree: &mut [u32], p: Parser) ->
     Step::Went(p)
 }
 
-// A Word: a text, or one character where a script is read.
-pub fn word(text: &[u8], tokens: &[u32], tree: &mut [u32], p: Parser, single: bool) -> Step
-    requires { ⌜ (p .lexer .token < tokenCount (now tokens)) × (kindAt (now tokens) (p .lexer .token) ≡ wordKind) × Somehow (λ t. (t .text ≡ now text) × (t .tokens ≡ now tokens)) p (now tree) ⌝ }
-    ensures { λ r. ⌜ ((notes : List ℕ) → Ran (λ t. (t .text ≡ now (text .entry)) × (t .tokens ≡ now (tokens .entry))) 1 (λ s n. aWord single s n) p (record { tree = now (tree .entry); dropped = notes }) r (record { tree = now (tree .exit); dropped = notes })) ⌝ }
+// Whether a Word is next.
+pub fn word_next(tokens: &[u32], p: Parser) -> bool
+    ensures { λ r. ⌜ r ≡ asked isWord (peek (now (tokens .entry)) (cursorOf (p .lexer))) ⌝ }
 {
-    if single {
-        return single_char(tokens, tree, p, p.lexer.peek_text(text, tokens));
-    }
-    routines::text(tokens, tree, p)
+    let peeked = p.lexer.peek(tokens);
+    let Peeked::Kind(kind) = peeked else {
+        return false;
+    };
+    kind == Token::WORD
+}
+
+// One character of a Word.
+pub fn word_character(text: &[u8], tokens: &[u32], tree: &mut [u32], p: Parser) -> Step
+    requires { ⌜ (p .lexer .token < tokenCount (now tokens)) × (kindAt (now tokens) (p .lexer .token) ≡ wordKind) × Somehow (λ t. (t .text ≡ now text) × (t .tokens ≡ now tokens)) p (now tree) ⌝ }
+    ensures { λ r. ⌜ ((notes : List ℕ) → Ran (λ t. (t .text ≡ now (text .entry)) × (t .tokens ≡ now (tokens .entry))) 1 (λ s n. singleChar (flat n) s) p (record { tree = now (tree .entry); dropped = notes }) r (record { tree = now (tree .exit); dropped = notes })) ⌝ }
+{
+    single_char(tokens, tree, p, p.lexer.peek_text(text, tokens))
 }
 
 // A command that wraps what stands from last on, else from start, else nothing.
@@ -88,10 +99,10 @@ pub fn left1_command(tokens: &[u32], tree: &mut [u32], p: Parser) -> Step
 fn or_else(mark: Mark, other: Mark) -> Mark
     ensures { λ r. ⌜ r ≡ orMark mark other ⌝ }
 {
-    match mark {
-        Mark::Nothing => other,
-        Mark::At(_) => mark,
+    if mark.is_nothing() {
+        return other;
     }
+    mark
 }
 
 // An attachment's node, around what stands from a mark on if there is one.
@@ -99,10 +110,10 @@ pub fn start_attach_at(tree: &mut [u32], p: Parser, at: Mark) -> Step
     requires { ⌜ Fits (p .builder) (now tree) × Within (p .builder) × MarkOk at (p .builder) ⌝ }
     ensures { λ r. ⌜ ((notes : List ℕ) → Opens (λ n. startAttachAt n (markOf at)) p (record { tree = now (tree .entry); dropped = notes }) r (record { tree = now (tree .exit); dropped = notes })) ⌝ }
 {
-    match at {
-        Mark::Nothing => p.start_node(tree, SyntaxKind::ITEM_ATTACH_COMPONENT),
-        Mark::At(checkpoint) => p.wrap(tree, SyntaxKind::ITEM_ATTACH_COMPONENT, checkpoint),
+    if at.is_nothing() {
+        return p.start_node(tree, SyntaxKind::ITEM_ATTACH_COMPONENT);
     }
+    p.wrap(tree, SyntaxKind::ITEM_ATTACH_COMPONENT, at.checkpoint())
 }
 
 // One character of a Word as an argument: what is held is dropped, and it has a node of its own.

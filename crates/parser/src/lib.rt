@@ -3,6 +3,7 @@ mod clauses;
 mod lists;
 mod root;
 
+ghost use mathlib.Core.Bool.{false};
 ghost use Rattle.rules.specs.Checks.{sourceOf};
 ghost use Rattle.rules.specs.Flat.{flat};
 ghost use Rattle.rules.specs.Items.{classCommand};
@@ -12,7 +13,7 @@ ghost use Rattle.items.specs.Items.{shapeFor, pieceFor};
 ghost use Rattle.routines.specs.Contract.{MarkOk, Ready, Holding};
 ghost use Rattle.routines.specs.Stands.{markOf};
 ghost use Rattle.syntax.specs.ParseScope.{scopeOf};
-ghost use Rattle.parser.specs.Member.{tables, buffers, Opening, Within, Next, WordIf, listItems, allArguments, greedyCommand, matchedCommand, attachmentAt, shapeIn};
+ghost use Rattle.parser.specs.Member.{tables, buffers, Opening, Within, Next, NextIf, WordIf, gainOf, itemsOf, insideOf, allArguments, greedyCommand, matchedCommand, attachmentAt, shapeIn};
 use arg_match::ArgMatcher;
 use arg_match::Argument;
 use arg_match::Tried;
@@ -21,7 +22,8 @@ use clauses::end_clause;
 use clauses::left1_command;
 use clauses::right_clause;
 use clauses::start_attach_at;
-use clauses::word;
+use clauses::word_character;
+use clauses::word_next;
 use items::Choice;
 use items::Item;
 use items::Piece;
@@ -34,10 +36,11 @@ use lexer::Column;
 use lexer::Peeked;
 use lexer::cell;
 use lexer::char_len;
-use lists::last_after;
+use lists::Extent;
+use lists::behind;
+use lists::closed;
 use lists::more_items;
-use lists::new_list;
-use lists::new_marks;
+use lists::opened;
 pub use root::parse;
 use routines::Mark;
 use routines::Parser;
@@ -60,7 +63,7 @@ use syntax::Refusal;
 use syntax::SyntaxKind;
 use syntax::Token;
 
-// Items up to the end, or a token that stops them.
+// Items as far as an extent goes: up to the end, or a token that stops them, or one.
 fn items(
     text: &[u8],
     tokens: &[u32],
@@ -69,24 +72,26 @@ fn items(
     tree: &mut [u32],
     dropped: &mut [u32],
     p: Parser,
-    greedy: bool,
+    extent: Extent,
 ) -> Step
-    requires { ⌜ Ready (tables (now text) (now tokens) (now shapes) (now states)) p (buffers (now tree) (now dropped)) ⌝ }
-    ensures { λ r. ⌜ Within (tables (now (text .entry)) (now (tokens .entry)) (now (shapes .entry)) (now (states .entry))) 0 (λ n inner. listItems (tables (now (text .entry)) (now (tokens .entry)) (now (shapes .entry)) (now (states .entry))) greedy n inner) p (buffers (now (tree .entry)) (now (dropped .entry))) r (buffers (now (tree .exit)) (now (dropped .exit))) ⌝ }
+    requires { ⌜ Ready (tables (now text) (now tokens) (now shapes) (now states)) p (buffers (now tree) (now dropped)) × NextIf extent (tables (now text) (now tokens) (now shapes) (now states)) p ⌝ }
+    ensures { λ r. ⌜ Within (tables (now (text .entry)) (now (tokens .entry)) (now (shapes .entry)) (now (states .entry))) (gainOf extent) (λ n inner. itemsOf (tables (now (text .entry)) (now (tokens .entry)) (now (shapes .entry)) (now (states .entry))) extent n inner) p (buffers (now (tree .entry)) (now (dropped .entry))) r (buffers (now (tree .exit)) (now (dropped .exit))) ⌝ }
 {
     let mut now = p;
-    while more_items(tokens, now, greedy) {
-        let r = content(text, tokens, shapes, states, tree, dropped, now, false);
+    let mut first = true;
+    while more_items(tokens, now, extent, first) {
+        let r = content(text, tokens, shapes, states, tree, dropped, now);
         let Step::Went(q) = r else {
-            return r;
+            return r.again();
         };
-        now = last_after(tokens, shapes, now, q);
+        now = behind(tokens, shapes, now, q, extent);
+        first = false;
     }
     Step::Went(now)
 }
 
-// A new list of a scope; the parent's marks are given back.
-fn item_list(
+// What an extent reads: a new list, whose parent's marks are given back, all that a greedy command takes, or one item.
+fn inside(
     text: &[u8],
     tokens: &[u32],
     shapes: &[u32],
@@ -94,17 +99,17 @@ fn item_list(
     tree: &mut [u32],
     dropped: &mut [u32],
     p: Parser,
-    scope: ParseScope,
+    extent: Extent,
 ) -> Step
-    requires { ⌜ Ready (tables (now text) (now tokens) (now shapes) (now states)) p (buffers (now tree) (now dropped)) ⌝ }
-    ensures { λ r. ⌜ Within (tables (now (text .entry)) (now (tokens .entry)) (now (shapes .entry)) (now (states .entry))) 0 (λ n inner. spec.itemList (flat n) (sourceOf (tables (now (text .entry)) (now (tokens .entry)) (now (shapes .entry)) (now (states .entry)))) inner (scopeOf scope)) p (buffers (now (tree .entry)) (now (dropped .entry))) r (buffers (now (tree .exit)) (now (dropped .exit))) ⌝ }
+    requires { ⌜ Ready (tables (now text) (now tokens) (now shapes) (now states)) p (buffers (now tree) (now dropped)) × NextIf extent (tables (now text) (now tokens) (now shapes) (now states)) p ⌝ }
+    ensures { λ r. ⌜ Within (tables (now (text .entry)) (now (tokens .entry)) (now (shapes .entry)) (now (states .entry))) (gainOf extent) (λ n inner. insideOf (tables (now (text .entry)) (now (tokens .entry)) (now (shapes .entry)) (now (states .entry))) extent n inner) p (buffers (now (tree .entry)) (now (dropped .entry))) r (buffers (now (tree .exit)) (now (dropped .exit))) ⌝ }
 {
-    let a = new_list(p, scope);
-    let r = items(text, tokens, shapes, states, tree, dropped, a, false);
+    let a = opened(p, extent);
+    let r = items(text, tokens, shapes, states, tree, dropped, a, extent);
     let Step::Went(q) = r else {
         return r;
     };
-    Step::Went(q.with_list(p.list))
+    Step::Went(closed(p, q, extent))
 }
 
 // A group between its braces.
@@ -130,7 +135,16 @@ fn item_group(
     let Step::Went(b) = q else {
         return q;
     };
-    let o = item_list(text, tokens, shapes, states, tree, dropped, b, scope);
+    let o = inside(
+        text,
+        tokens,
+        shapes,
+        states,
+        tree,
+        dropped,
+        b,
+        Extent::List(scope),
+    );
     let Step::Went(c) = o else {
         return o;
     };
@@ -156,10 +170,10 @@ fn piece(
     ensures { λ r. ⌜ Within (tables (now (text .entry)) (now (tokens .entry)) (now (shapes .entry)) (now (states .entry))) 1 (λ n inner. spec.piece (flat n) (sourceOf (tables (now (text .entry)) (now (tokens .entry)) (now (shapes .entry)) (now (states .entry)))) inner (pieceFor what)) p (buffers (now (tree .entry)) (now (dropped .entry))) r (buffers (now (tree .exit)) (now (dropped .exit))) ⌝ }
 {
     match what {
-        Piece::Character => word(text, tokens, tree, p, true),
+        Piece::Character => word_character(text, tokens, tree, p),
         Piece::Within(scope) => item_group(text, tokens, shapes, states, tree, dropped, p, scope),
         Piece::Brace => eat(tokens, tree, p),
-        Piece::Item => content(text, tokens, shapes, states, tree, dropped, p, false),
+        Piece::Item => inside(text, tokens, shapes, states, tree, dropped, p, Extent::Item),
     }
 }
 
@@ -180,15 +194,15 @@ fn argument(
     let a = ignore_holding_trivia(dropped, p);
     let r = a.start_node(tree, SyntaxKind::CLAUSE_ARGUMENT);
     let Step::Went(b) = r else {
-        return r;
+        return r.again();
     };
     let q = piece(text, tokens, shapes, states, tree, dropped, b, what);
     let Step::Went(c) = q else {
-        return q;
+        return q.again();
     };
     let o = c.finish_node(tree, SyntaxKind::CLAUSE_ARGUMENT, p.builder.frame());
     let Step::Went(d) = o else {
-        return o;
+        return o.again();
     };
     Step::Went(d.holding_none())
 }
@@ -225,7 +239,7 @@ fn arguments(
                 let size = char_len(word);
                 let r = character(tokens, tree, dropped, now, word);
                 let Step::Went(q) = r else {
-                    return r;
+                    return r.again();
                 };
                 now = q;
                 matcher = next;
@@ -233,7 +247,7 @@ fn arguments(
             }
         } else {
             let list = now.list;
-            let scope = list.scope;
+            let scope = ParseScope::numbered(list.scope);
             let choice = choose(states, scope, matcher, kind);
             match choice {
                 Choice::Ends => {
@@ -245,7 +259,7 @@ fn arguments(
                 Choice::Takes(what, next) => {
                     let o = argument(text, tokens, shapes, states, tree, dropped, now, what);
                     let Step::Went(q) = o else {
-                        return o;
+                        return o.again();
                     };
                     now = q;
                     matcher = next;
@@ -272,13 +286,13 @@ fn match_arguments(
 {
     let list = p.list;
     let start = list.start;
-    let cleared = p.with_marks(Mark::Nothing, Mark::Nothing);
+    let cleared = p.with_marks(Mark::nothing(), Mark::nothing());
     let inner = cleared.list;
     let last = inner.last;
     let a = cleared.holding_none();
     let r = arguments(text, tokens, shapes, states, tree, dropped, a, m);
     let Step::Went(q) = r else {
-        return r;
+        return r.again();
     };
     Step::Went(q.with_marks(start, last))
 }
@@ -296,19 +310,24 @@ fn greedy_rest(
     requires { ⌜ Ready (tables (now text) (now tokens) (now shapes) (now states)) p (buffers (now tree) (now dropped)) ⌝ }
     ensures { λ r. ⌜ Opening (tables (now (text .entry)) (now (tokens .entry)) (now (shapes .entry)) (now (states .entry))) 0 (λ n inner. spec.greedyArgument (flat n) (sourceOf (tables (now (text .entry)) (now (tokens .entry)) (now (shapes .entry)) (now (states .entry)))) inner) p (buffers (now (tree .entry)) (now (dropped .entry))) r (buffers (now (tree .exit)) (now (dropped .exit))) ⌝ }
 {
-    let list = p.list;
-    let start = list.start;
     let r = p.start_node(tree, SyntaxKind::CLAUSE_ARGUMENT);
     let Step::Went(a) = r else {
         return r;
     };
-    let b = new_marks(a);
-    let q = items(text, tokens, shapes, states, tree, dropped, b, true);
-    let Step::Went(c) = q else {
+    let q = inside(
+        text,
+        tokens,
+        shapes,
+        states,
+        tree,
+        dropped,
+        a,
+        Extent::Greedy,
+    );
+    let Step::Went(b) = q else {
         return q;
     };
-    let d = c.with_marks(start, Mark::Nothing);
-    d.finish_node(tree, SyntaxKind::CLAUSE_ARGUMENT, p.builder.frame())
+    b.finish_node(tree, SyntaxKind::CLAUSE_ARGUMENT, p.builder.frame())
 }
 
 // A greedy command, around what stands from a mark on if there is one.
@@ -358,21 +377,21 @@ fn matched(
 {
     let r = p.start_node(tree, SyntaxKind::ITEM_CMD);
     let Step::Went(a) = r else {
-        return r;
+        return r.again();
     };
     let q = eat(tokens, tree, a);
     let Step::Went(b) = q else {
-        return q;
+        return q.again();
     };
     let o = match_arguments(text, tokens, shapes, states, tree, dropped, b, m);
     let Step::Went(c) = o else {
-        return o;
+        return o.again();
     };
     let n = c.finish_node(tree, SyntaxKind::ITEM_CMD, p.builder.frame());
     let Step::Went(d) = n else {
-        return n;
+        return n.again();
     };
-    extract_holding_trivia(tokens, tree, d)
+    extract_holding_trivia(tokens, tree, d).again()
 }
 
 // A command by its shape.
@@ -406,7 +425,7 @@ fn command(
             states,
             tree,
             dropped,
-            p.with_marks(Mark::Nothing, last),
+            p.with_marks(Mark::nothing(), last),
             start,
         );
     }
@@ -420,7 +439,7 @@ fn command(
             tree,
             dropped,
             p,
-            Mark::Nothing,
+            Mark::nothing(),
         );
     }
     matched(text, tokens, shapes, states, tree, dropped, p, matcher)
@@ -480,7 +499,7 @@ fn begin(
     let Step::Went(d) = n else {
         return n;
     };
-    extract_holding_trivia(tokens, tree, d)
+    extract_holding_trivia(tokens, tree, d).again()
 }
 
 // An environment: its \begin, its body, its \end.
@@ -505,7 +524,7 @@ fn environment(
     let Step::Went(b) = q else {
         return q;
     };
-    let o = item_list(
+    let o = inside(
         text,
         tokens,
         shapes,
@@ -513,7 +532,7 @@ fn environment(
         tree,
         dropped,
         b,
-        ParseScope::Environment,
+        Extent::List(ParseScope::Environment),
     );
     let Step::Went(c) = o else {
         return o;
@@ -547,7 +566,7 @@ fn item_lr(
     let Step::Went(b) = q else {
         return q;
     };
-    let o = item_list(
+    let o = inside(
         text,
         tokens,
         shapes,
@@ -555,7 +574,7 @@ fn item_lr(
         tree,
         dropped,
         b,
-        ParseScope::LR,
+        Extent::List(ParseScope::LR),
     );
     let Step::Went(c) = o else {
         return o;
@@ -584,14 +603,21 @@ fn script(
     if !has_script {
         return Step::Went(p);
     }
+    // Most scripts are one character; then no routine is called that the state would have to lie in memory for.
+    if word_next(tokens, p) {
+        return word_character(text, tokens, tree, p);
+    }
     let r = trivia(tokens, tree, p);
     let Step::Went(a) = r else {
-        return r;
+        return r.again();
     };
     if tokens.len() / Limits::TOKEN_WIDTH <= a.lexer.token {
         return Step::Went(a);
     }
-    content(text, tokens, shapes, states, tree, dropped, a, true)
+    if word_next(tokens, a) {
+        return word_character(text, tokens, tree, a).again();
+    }
+    inside(text, tokens, shapes, states, tree, dropped, a, Extent::Item).again()
 }
 
 // A script or an apostrophe, around what stands from a mark on if there is one.
@@ -642,7 +668,7 @@ fn attach_component(
     let list = p.list;
     let last = list.last;
     if !has_script {
-        if let Mark::Nothing = last {
+        if last.is_nothing() {
             return eat(tokens, tree, p);
         }
     }
@@ -659,7 +685,7 @@ fn attach_component(
     )
 }
 
-// Any item; `single` says that one character of a Word is enough.
+// Any item, whole. A group is handed a copy of the state, so that the state itself need not lie in memory.
 fn content(
     text: &[u8],
     tokens: &[u32],
@@ -668,10 +694,9 @@ fn content(
     tree: &mut [u32],
     dropped: &mut [u32],
     p: Parser,
-    single: bool,
 ) -> Step
     requires { ⌜ Ready (tables (now text) (now tokens) (now shapes) (now states)) p (buffers (now tree) (now dropped)) × Next (tables (now text) (now tokens) (now shapes) (now states)) p ⌝ }
-    ensures { λ r. ⌜ Opening (tables (now (text .entry)) (now (tokens .entry)) (now (shapes .entry)) (now (states .entry))) 1 (λ n inner. spec.content (flat n) (sourceOf (tables (now (text .entry)) (now (tokens .entry)) (now (shapes .entry)) (now (states .entry)))) inner single) p (buffers (now (tree .entry)) (now (dropped .entry))) r (buffers (now (tree .exit)) (now (dropped .exit))) ⌝ }
+    ensures { λ r. ⌜ Opening (tables (now (text .entry)) (now (tokens .entry)) (now (shapes .entry)) (now (states .entry))) 1 (λ n inner. spec.content (flat n) (sourceOf (tables (now (text .entry)) (now (tokens .entry)) (now (shapes .entry)) (now (states .entry)))) inner false) p (buffers (now (tree .entry)) (now (dropped .entry))) r (buffers (now (tree .exit)) (now (dropped .exit))) ⌝ }
 {
     let token = p.lexer.token;
     let kind = cell(tokens, token, Column::KIND);
@@ -679,9 +704,11 @@ fn content(
     match item {
         Item::Plain => eat(tokens, tree, p),
         Item::Error => one_in(tokens, tree, p, SyntaxKind::TOKEN_ERROR),
-        Item::Word => word(text, tokens, tree, p, single),
-        Item::Comma => routines::text(tokens, tree, p),
-        Item::Group(scope) => item_group(text, tokens, shapes, states, tree, dropped, p, scope),
+        Item::Word | Item::Comma => routines::text(tokens, tree, p),
+        Item::Group(scope) => {
+            let at = p;
+            item_group(text, tokens, shapes, states, tree, dropped, at, scope).again()
+        }
         Item::Attachment(has_script) => attach_component(
             text,
             tokens,

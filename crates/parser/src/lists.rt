@@ -1,4 +1,4 @@
-// What a list's loop asks around each item: whether another one is next, and what last is behind it.
+// How far items are read (`Extent`), and what the loop over them asks and changes.
 ghost use mathlib.Core.Path.{_≡_};
 ghost use Prim.Native.Nat.{_<_, _≤_, _/_};
 ghost use lib.ListN.{length};
@@ -7,9 +7,9 @@ ghost use Rattle.rules.specs.Limits.{shapeWidth};
 ghost use Rattle.rules.specs.Position.{asked};
 ghost use Rattle.rules.specs.Tables.{tokenCount, shapeAt};
 ghost use Rattle.lexer.specs.Reading.{cursorOf};
-ghost use Rattle.syntax.specs.ParseScope.{scopeOf};
+ghost use Rattle.syntax.specs.ParseScope.{scopeAt};
 ghost use Rattle.routines.specs.Change.{relisted};
-ghost use Rattle.parser.specs.Member.{goesOn, listed, LastAfter};
+ghost use Rattle.parser.specs.Member.{goesOn, listed, LastAfter, Behind, more, opened, closed};
 use items::Shape;
 use items::attachable;
 use items::greedy_stops;
@@ -21,45 +21,81 @@ use routines::Mark;
 use routines::Parser;
 use syntax::ParseScope;
 
-// Whether an item is next: a token is there that does not stop the list.
-pub fn more_items(tokens: &[u32], p: Parser, greedy: bool) -> bool
-    ensures { λ r. ⌜ r ≡ asked (goesOn greedy (scopeOf (p .list .scope))) (peek (now (tokens .entry)) (cursorOf (p .lexer))) ⌝ }
+// How far is read: a new list of a scope, all that a greedy command takes, or one item. All three go through one loop, so that an item is read at one
+// place and the compiler puts its reading into the loop.
+pub enum Extent {
+    List(ParseScope),
+    Greedy,
+    Item,
+}
+
+// Whether a token is there that does not stop the list.
+fn goes_on(tokens: &[u32], p: Parser, greedy: bool) -> bool
+    ensures { λ r. ⌜ r ≡ asked (goesOn greedy (scopeAt (p .list .scope))) (peek (now (tokens .entry)) (cursorOf (p .lexer))) ⌝ }
 {
     let peeked = p.lexer.peek(tokens);
     let Peeked::Kind(kind) = peeked else {
         return false;
     };
     let list = p.list;
-    let scope = list.scope;
+    let scope = ParseScope::numbered(list.scope);
     if greedy {
         return !greedy_stops(scope, kind);
     }
     !scope.stop_by_scope(kind)
 }
 
+// Whether an item is read next, the first or a later one.
+pub fn more_items(tokens: &[u32], p: Parser, extent: Extent, first: bool) -> bool
+    ensures { λ r. ⌜ r ≡ more extent first (scopeAt (p .list .scope)) (peek (now (tokens .entry)) (cursorOf (p .lexer))) ⌝ }
+{
+    match extent {
+        Extent::List(_) => goes_on(tokens, p, false),
+        Extent::Greedy => goes_on(tokens, p, true),
+        Extent::Item => first,
+    }
+}
+
 // A list of a scope that begins here.
-pub fn new_list(p: Parser, scope: ParseScope) -> Parser
+fn new_list(p: Parser, scope: usize) -> Parser
     ensures { λ r. ⌜ r ≡ relisted p (listed scope p) ⌝ }
 {
     p.with_list(ListState {
         scope,
-        start: Mark::At(p.builder.checkpoint()),
-        last: Mark::Nothing,
+        start: Mark::at(p.builder.checkpoint()),
+        last: Mark::nothing(),
     })
 }
 
-// The same scope, with a start mark here.
-pub fn new_marks(p: Parser) -> Parser
-    ensures { λ r. ⌜ r ≡ relisted p (listed (p .list .scope) p) ⌝ }
+// What the first item is read in: a new list, or the same scope with a start mark here.
+pub fn opened(p: Parser, extent: Extent) -> Parser
+    ensures { λ r. ⌜ r ≡ opened extent p ⌝ }
 {
     let list = p.list;
-    let scope = list.scope;
-    new_list(p, scope)
+    let same = list.scope;
+    match extent {
+        Extent::List(scope) => new_list(p, scope.number()),
+        Extent::Greedy => new_list(p, same),
+        Extent::Item => p,
+    }
+}
+
+// What is given back behind the last item, q, of those that began at p: the parent's marks, or its start alone.
+pub fn closed(p: Parser, q: Parser, extent: Extent) -> Parser
+    ensures { λ r. ⌜ r ≡ closed extent p q ⌝ }
+{
+    let list = p.list;
+    let start = list.start;
+    match extent {
+        Extent::List(_) => q.with_list(list),
+        Extent::Greedy => q.with_marks(start, Mark::nothing()),
+        Extent::Item => q,
+    }
 }
 
 // The mark before an item that is attachable becomes last: p is where the item began, q where it ended.
-pub fn last_after(tokens: &[u32], shapes: &[u32], p: Parser, q: Parser) -> Parser
-    requires { ⌜ (p .lexer .token < tokenCount (now tokens)) × (shapeAt (now tokens) (p .lexer .token) ≤ length (now shapes) / shapeWidth) ⌝ }
+fn last_after(tokens: &[u32], shapes: &[u32], p: Parser, q: Parser) -> Parser
+    requires { ⌜ (p .lexer .token < tokenCount (now tokens)) × (shapeAt (now tokens) (p .lexer .token) ≤ length (now shapes) / shapeWidth) × (0 < p .builder .rows) ⌝ }
     ensures { λ r. ⌜ LastAfter (now (tokens .entry)) (now (shapes .entry)) p q r ⌝ }
 {
     let token = p.lexer.token;
@@ -67,7 +103,19 @@ pub fn last_after(tokens: &[u32], shapes: &[u32], p: Parser, q: Parser) -> Parse
     if attachable(cell(tokens, token, Column::KIND), shape) {
         let list = q.list;
         let start = list.start;
-        return q.with_marks(start, Mark::At(p.builder.checkpoint()));
+        return q.with_marks(start, Mark::at(p.builder.checkpoint()));
     }
     q
+}
+
+// The state behind an item: where one item is read, last is left alone.
+pub fn behind(tokens: &[u32], shapes: &[u32], p: Parser, q: Parser, extent: Extent) -> Parser
+    requires { ⌜ (p .lexer .token < tokenCount (now tokens)) × (shapeAt (now tokens) (p .lexer .token) ≤ length (now shapes) / shapeWidth) × (0 < p .builder .rows) ⌝ }
+    ensures { λ r. ⌜ Behind extent (now (tokens .entry)) (now (shapes .entry)) p q r ⌝ }
+{
+    match extent {
+        Extent::List(_) => last_after(tokens, shapes, p, q),
+        Extent::Greedy => last_after(tokens, shapes, p, q),
+        Extent::Item => q,
+    }
 }

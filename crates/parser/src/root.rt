@@ -2,7 +2,8 @@
 ghost use mathlib.Core.Path.{_≡_};
 ghost use Rattle.parser.specs.Member.{tables, buffers};
 ghost use Rattle.parser.specs.Root.{atRoot, Readable, Parsed};
-use crate::item_list;
+use crate::inside;
+use crate::lists::Extent;
 use builder::GreenNodeBuilder;
 use lexer::Lexer;
 use routines::ListState;
@@ -20,9 +21,9 @@ fn at_start() -> Parser
         lexer: Lexer::new(),
         held: 0,
         list: ListState {
-            scope: ParseScope::Root,
-            start: Mark::Nothing,
-            last: Mark::Nothing,
+            scope: ParseScope::Root.number(),
+            start: Mark::nothing(),
+            last: Mark::nothing(),
         },
         builder: GreenNodeBuilder::new(),
         dropped: 0,
@@ -46,7 +47,7 @@ pub fn parse(
     let Step::Went(a) = r else {
         return r;
     };
-    let q = item_list(
+    let q = inside(
         text,
         tokens,
         shapes,
@@ -54,7 +55,7 @@ pub fn parse(
         tree,
         dropped,
         a,
-        ParseScope::Root,
+        Extent::List(ParseScope::Root),
     );
     let Step::Went(b) = q else {
         return q;

@@ -8,7 +8,6 @@ use lib.Seq.{drop-drop}
 use Rattle.rules.specs.Limits.{nodes, treeWidth, droppedWidth}
 use Rattle.rules.specs.Outcome.{Out, went, refused, bind}
 use Rattle.rules.specs.Checks.{Tables, sourceOf}
-use Rattle.syntax.specs.declared.parse_scope.ParseScope.{ParseScope}
 use Rattle.routines.specs.Stands.{Buffers, Here, posOf, outOf}
 use Rattle.routines.specs.Contract.{Ready, Passed, Left, Begun, Ended, Gone, Told, RuleOf, Ran, Opens, Closes, Runs, Somehow}
 use Rattle.routines.specs.declared.state.Parser.{Parser}
@@ -119,7 +118,7 @@ stays-home (suc lift) s u z a b h = tt
 
 -- from s and m the code came to u and v: `rest` is left of the rule, at least `gain` was read, `lift` nodes are open that were not,
 -- and the list's scope is `scope`
-pub record Walk (t : Tables) (rule : Rule) (rest : List Rule) (gain lift : ℕ) (scope : ParseScope) (s : Parser) (m : Buffers) (u : Parser) (v : Buffers) : Type 0 where
+pub record Walk (t : Tables) (rule : Rule) (rest : List Rule) (gain lift : ℕ) (scope : ℕ) (s : Parser) (m : Buffers) (u : Parser) (v : Buffers) : Type 0 where
   pub is : (d : ℕ) → nodes ≤ s .builder .depth + d → rule (length (m .tree)) d (posOf s m) ≡ line rest (length (m .tree)) d (posOf u v)
   pub passed : Passed t gain s m u v
   pub ready : Ready t u v
@@ -155,7 +154,7 @@ begins {m} ready e =
 
 -- ---- a walk and the next step, f
 
-module _ {t : Tables} {rule f : Rule} {rest : List Rule} {gain lift : ℕ} {scope : ParseScope} {s : Parser} {m : Buffers} {u : Parser} {v : Buffers} {r : Step} {x : Buffers}
+module _ {t : Tables} {rule f : Rule} {rest : List Rule} {gain lift : ℕ} {scope : ℕ} {s : Parser} {m : Buffers} {u : Parser} {v : Buffers} {r : Step} {x : Buffers}
     (w : Walk t rule (f ∷ rest) gain lift scope s m u v) where
   -- what f comes to, at the caller's room and level
   call-is : {Q : Parser → Type 0} → Call t f lift Q u v r x → (d : ℕ) → nodes ≤ s .builder .depth + d → f (length (m .tree)) d (posOf u v) ≡ outOf r x
@@ -217,7 +216,7 @@ module _ {t : Tables} {rule f : Rule} {rest : List Rule} {gain lift : ℕ} {scop
 
 -- ---- a walk goes on without a call
 
-module _ {t : Tables} {rule : Rule} {rest : List Rule} {gain lift : ℕ} {scope : ParseScope} {s : Parser} {m : Buffers} {u : Parser} {v : Buffers} (w : Walk t rule rest gain lift scope s m u v) where
+module _ {t : Tables} {rule : Rule} {rest : List Rule} {gain lift : ℕ} {scope : ℕ} {s : Parser} {m : Buffers} {u : Parser} {v : Buffers} (w : Walk t rule rest gain lift scope s m u v) where
   -- a test was met, or a name has its value here: what is left is `next`
   pub turns : {next : List Rule} → ((n d : ℕ) → line rest n d (posOf u v) ≡ line next n d (posOf u v)) → Walk t rule next gain lift scope s m u v
   turns e = record { is = λ d h. w .is d h ∙ e (length (m .tree)) d; passed = w .passed; ready = w .ready; depth = w .depth; few = w .few; home = w .home; scope-is = w .scope-is }

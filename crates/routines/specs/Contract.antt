@@ -19,20 +19,18 @@ use Rattle.lexer.specs.Reading.{cursorOf}
 use Rattle.lexer.specs.Fine.{Sound, Fine}
 use Rattle.builder.specs.Contract.{Fits, Within, Inside}
 use Rattle.builder.specs.declared.GreenNodeBuilder.{GreenNodeBuilder}
-use Rattle.routines.specs.Stands.{Buffers, Here, posOf, outOf}
+use Rattle.routines.specs.Stands.{Buffers, Here, checkpointOf, posOf, outOf}
 use Rattle.routines.specs.Change.{ignored}
 use Rattle.routines.specs.declared.state.Mark.{Mark}
-use Rattle.routines.specs.declared.state.Mark.the-variants.{Nothing, At}
 use Rattle.routines.specs.declared.state.Parser.{Parser}
 use Rattle.routines.specs.declared.state.Step.{Step}
 use Rattle.routines.specs.declared.state.Step.the-variants.{Went, Refused}
 
 -- ---- what a routine may assume
 
--- a mark was made when there were no more rows than now
+-- a mark was made when there were no more rows than now; no mark has row 0, so this holds of it everywhere
 abbrev pub MarkOk : Mark → GreenNodeBuilder → Type 0
-MarkOk Nothing b = Unit {0}
-MarkOk (At m) b = Inside m b
+MarkOk m b = Inside (checkpointOf m) b
 
 -- tables that were not refused
 pub record Good (t : Tables) : Type 0 where

@@ -1,17 +1,19 @@
 -- The parser's state, with both buffers beside it, as the rules have it.
 use Prim.Native.Nat.{ℕ, _*_}
+use mathlib.Core.Bool.{Bool, cond}
 use mathlib.Core.List.{List}
 use mathlib.Core.Option.{Option, none, some}
+use lib.Dec.{eqb}
 use lib.ListN.{take}
 use Rattle.rules.specs.Limits.{droppedWidth}
 use Rattle.rules.specs.Flat as flat
 use Rattle.rules.specs.Outcome.{Out, went, refused}
 use Rattle.rules.specs.Position as rule
-use Rattle.syntax.specs.ParseScope.{scopeOf}
+use Rattle.syntax.specs.ParseScope.{scopeAt}
 use Rattle.lexer.specs.Reading.{cursorOf}
 use Rattle.builder.specs.Stands as builder
+use Rattle.builder.specs.declared.Checkpoint.{Checkpoint}
 use Rattle.routines.specs.declared.state.Mark.{Mark}
-use Rattle.routines.specs.declared.state.Mark.the-variants.{Nothing, At}
 use Rattle.routines.specs.declared.state.ListState.{ListState}
 use Rattle.routines.specs.declared.state.Parser.{Parser}
 use Rattle.routines.specs.declared.state.Step.{Step}
@@ -26,12 +28,27 @@ pub record Buffers : Type 0 where
 abbrev pub Here : Type 0
 Here = rule.Pos flat.Built flat.Mark
 
+-- no mark
+abbrev pub noMark : Mark
+noMark = record { children = 0; row = 0 }
+
+-- the mark that a checkpoint makes
+abbrev pub markAt : Checkpoint → Mark
+markAt c = record { children = c .children; row = c .row }
+
+-- row 0 says that there is none
+abbrev pub isNothing : Mark → Bool
+isNothing m = eqb (m .row) 0
+
+-- the checkpoint that made a mark
+abbrev pub checkpointOf : Mark → Checkpoint
+checkpointOf m = record { children = m .children; row = m .row }
+
 abbrev pub markOf : Mark → Option flat.Mark
-markOf Nothing = none
-markOf (At m) = some (builder.markOf m)
+markOf m = cond (isNothing m) none (some (builder.markOf (checkpointOf m)))
 
 abbrev pub listOf : ListState → rule.ListState flat.Mark
-listOf l = record { scope = scopeOf (l .scope); start = markOf (l .start); last = markOf (l .last) }
+listOf l = record { scope = scopeAt (l .scope); start = markOf (l .start); last = markOf (l .last) }
 
 -- the rows and the dropped rows are the buffers' first numbers
 abbrev pub posOf : Parser → Buffers → Here

@@ -121,8 +121,8 @@ pub fn start_command_at(tree: &mut [u32], p: Parser, at: Mark) -> Step
     requires { ⌜ Fits (p .builder) (now tree) × Within (p .builder) × MarkOk at (p .builder) ⌝ }
     ensures { λ r. ⌜ ((s : Source) (notes : List ℕ) → Opens (λ n. spec.startCommandAt (flat n) s (markOf at)) p (record { tree = now (tree .entry); dropped = notes }) r (record { tree = now (tree .exit); dropped = notes })) ⌝ }
 {
-    match at {
-        Mark::Nothing => p.start_node(tree, SyntaxKind::ITEM_CMD),
-        Mark::At(checkpoint) => p.wrap(tree, SyntaxKind::ITEM_CMD, checkpoint),
+    if at.is_nothing() {
+        return p.start_node(tree, SyntaxKind::ITEM_CMD);
     }
+    p.wrap(tree, SyntaxKind::ITEM_CMD, at.checkpoint())
 }

@@ -5,6 +5,7 @@ ghost use Prim.Native.Nat.{ℕ};
 ghost use Rattle.rules.specs.Flat.{flat};
 ghost use Rattle.rules.specs.Position as spec;
 ghost use Rattle.builder.specs.Stands as shown;
+ghost use Rattle.routines.specs.Stands.{noMark, markAt, isNothing, checkpointOf};
 ghost use Rattle.routines.specs.Change.{buildingOf, relexed, relisted, remarked, unheld};
 ghost use Rattle.builder.specs.Contract.{Fits, Within, Inside};
 ghost use Rattle.routines.specs.Contract.{Told, Leafed, Opens, Closes};
@@ -13,17 +14,53 @@ use builder::Checkpoint;
 use builder::Frame;
 use builder::GreenNodeBuilder;
 use lexer::Lexer;
-use syntax::ParseScope;
 
-// `Option<Checkpoint>`.
-pub enum Mark {
-    Nothing,
-    At(Checkpoint),
+// `Option<Checkpoint>`: row 0 is the root's own start, where no mark is made, so it says that there is none. An enum's tag would have seven
+// unused bytes behind it, and copies of those make the processor wait.
+pub struct Mark {
+    pub children: usize,
+    pub row: usize,
 }
 
-// A list has a scope, a start mark and a last mark.
+impl Mark {
+    pub fn nothing() -> Self
+        ensures { λ r. ⌜ r ≡ noMark ⌝ }
+    {
+        Self {
+            children: 0,
+            row: 0,
+        }
+    }
+
+    // A checkpoint at row 0 would make none; none is made there, since the root's start row is written first.
+    pub fn at(checkpoint: Checkpoint) -> Self
+        ensures { λ r. ⌜ r ≡ markAt checkpoint ⌝ }
+    {
+        Self {
+            children: checkpoint.children,
+            row: checkpoint.row,
+        }
+    }
+
+    pub fn is_nothing(self) -> bool
+        ensures { λ r. ⌜ r ≡ isNothing self ⌝ }
+    {
+        self.row == 0
+    }
+
+    pub fn checkpoint(self) -> Checkpoint
+        ensures { λ r. ⌜ r ≡ checkpointOf self ⌝ }
+    {
+        Checkpoint {
+            children: self.children,
+            row: self.row,
+        }
+    }
+}
+
+// A list has a scope, here by its number, a start mark and a last mark.
 pub struct ListState {
-    pub scope: ParseScope,
+    pub scope: usize,
     pub start: Mark,
     pub last: Mark,
 }
@@ -41,6 +78,18 @@ pub struct Parser {
 pub enum Step {
     Went(Parser),
     Refused(u32, usize),
+}
+
+impl Step {
+    // The same, taken apart and put together again: what a call wrote in one piece can then lie in registers.
+    pub fn again(self) -> Self
+        ensures { λ r. ⌜ r ≡ self ⌝ }
+    {
+        match self {
+            Self::Went(p) => Self::Went(p),
+            Self::Refused(number, place) => Self::Refused(number, place),
+        }
+    }
 }
 
 impl Parser {

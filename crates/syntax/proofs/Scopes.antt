@@ -1,31 +1,19 @@
--- The scopes in the order of their numbers, and that no kind over 39 stops any. Assumes nothing.
+-- The scopes' numbers, and that no kind over 39 stops any scope. Assumes nothing.
 use Prim.Native.Nat.{ℕ, _≤_, _<_}
 use borrow.Author.Tests.{ltb-true, ne-eqb}
 use lib.Dec.{lit<, ltb}
-use lib.ListN.{getD}
 use mathlib.Core.Bool.{Bool, true, false, _&&_, and-eq-true-iff}
 use mathlib.Core.List.{List, [], _∷_}
 use mathlib.Core.Path.{_≡_, refl}
 use native.Mathlib.Omega.{arith}
 use Rattle.rules.specs.Limits
 use Rattle.rules.specs.Scope as rules
-use Rattle.syntax.specs.ParseScope.{numberOf, scopeOf}
+use Rattle.syntax.specs.ParseScope.{numberOf, scopeAt, scopeOf}
 use Rattle.syntax.specs.declared.parse_scope.ParseScope.{ParseScope}
 use Rattle.syntax.specs.declared.parse_scope.ParseScope.the-variants.{Root, DollarFormula, CmdFormula, Environment, LR, CurlyItem, BracketItem, ParenItem}
 
-abbrev pub scopes : List rules.Scope
-scopes =
-    rules.Root
-    ∷ rules.DollarFormula
-    ∷ rules.CmdFormula
-    ∷ rules.Environment
-    ∷ rules.LR
-    ∷ rules.CurlyItem
-    ∷ rules.BracketItem
-    ∷ rules.ParenItem
-    ∷ []
-
-pub numbered : (p : ParseScope) → (numberOf p < 8) × (getD scopes (numberOf p) rules.Root ≡ scopeOf p)
+-- a scope has one of eight numbers, and is that number's
+pub numbered : (p : ParseScope) → (numberOf p < 8) × (scopeAt (numberOf p) ≡ scopeOf p)
 numbered Root = (lit< tt, refl)
 numbered DollarFormula = (lit< tt, refl)
 numbered CmdFormula = (lit< tt, refl)

@@ -1,7 +1,7 @@
 // The scope of a list (parser.rs), and which kinds of tokens stop a list.
 ghost use mathlib.Core.Path.{_≡_};
 ghost use Rattle.rules.specs.Scope.{stops};
-ghost use Rattle.syntax.specs.ParseScope.{numberOf, scopeOf};
+ghost use Rattle.syntax.specs.ParseScope.{numberOf, scopeAt, scopeOf};
 use crate::limits::Limits;
 
 pub enum ParseScope {
@@ -50,6 +50,22 @@ impl ParseScope {
             Self::CurlyItem => 5,
             Self::BracketItem => 6,
             Self::ParenItem => 7,
+        }
+    }
+
+    // The scope of a number; a number that is none's is the root's.
+    pub fn numbered(number: usize) -> Self
+        ensures { λ r. ⌜ scopeOf r ≡ scopeAt number ⌝ }
+    {
+        match number {
+            1 => Self::DollarFormula,
+            2 => Self::CmdFormula,
+            3 => Self::Environment,
+            4 => Self::LR,
+            5 => Self::CurlyItem,
+            6 => Self::BracketItem,
+            7 => Self::ParenItem,
+            _ => Self::Root,
         }
     }
 

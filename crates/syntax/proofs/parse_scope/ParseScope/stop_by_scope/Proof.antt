@@ -9,8 +9,9 @@ use mathlib.Core.Path.{_≡_, refl, sym, _∙_, ap}
 use native.Mathlib.Omega.{arith}
 use Rattle.rules.proofs.Table.{grid, at-cell}
 use Rattle.rules.specs.Limits
-use Rattle.rules.specs.Scope.{Scope, Root, stops, stopKinds}
-use Rattle.syntax.proofs.Scopes.{no-stop, numbered, scopes}
+use Rattle.rules.specs.Scope.{stops, stopKinds}
+use Rattle.syntax.specs.ParseScope.{scopeAt}
+use Rattle.syntax.proofs.Scopes.{no-stop, numbered}
 use Rattle.syntax.proofs.parse_scope.ParseScope.stop_by_scope.Statement.{statement}
 use Rattle.syntax.proofs.parse_scope.ParseScope.stop_by_scope.Tie as tie
 
@@ -20,14 +21,14 @@ line [] = 0
 line (kind ∷ kinds) = 2 ^ kind + line kinds
 
 abbrev lines : List ℕ
-lines = map (λ (scope : Scope). line (stopKinds scope)) scopes
+lines = map (λ (row : ℕ). line (stopKinds (scopeAt row))) (0 ∷ 1 ∷ 2 ∷ 3 ∷ 4 ∷ 5 ∷ 6 ∷ 7 ∷ [])
 
 -- the digit that stands there
 abbrev digit : ℕ → ℕ → Bool
 digit row kind = eqb (getD lines row 0 / 2 ^ kind % 2) 1
 
 rule : ℕ → ℕ → Bool
-rule row kind = stops (getD scopes row Root) kind
+rule row kind = stops (scopeAt row) kind
 
 -- all 320 digits are the rule's: antt computes them
 same : grid 320 Limits.kinds digit ≡ grid 320 Limits.kinds rule
