@@ -12,6 +12,8 @@ use Rattle.rules.specs.Outcome.{Out, went}
 use Rattle.rules.specs.Position.{Rule, Shape, Source, asked, steps, start, wrap, finish, withMarks, holdingNone}
 use Rattle.rules.specs.SyntaxKind.{ItemCmd, ItemEnd, ItemAttachComponent, ClauseArgument}
 use Rattle.rules.specs.Token.{Word, EndEnvironment, Right}
+use denote.Ref.{RefT}
+use denote.Triple.Both.{Both}
 use lib.Dec.{eqb}
 use Rattle.rules.specs.Matcher.{Matcher}
 use Rattle.rules.specs.Reading.{content, contentAt, items, itemList, lastAfter, orElse, arguments, matchArguments, greedyArgument, commandNode, attachmentNode}
@@ -53,6 +55,34 @@ Opening t gain rule p m r v = Runs t gain (λ n d. rule n (innerAt t n d) (posOf
 -- a member that reads items in the node that is open
 abbrev pub Within : Tables → ℕ → Inside → Parser → Buffers → Step → Buffers → Type 0
 Within t gain rule p m r v = Runs t gain (λ n d. rule n (content (flat n) (sourceOf t) (innerAt t n d)) (posOf p m)) p m r v
+
+-- ---- the same over the parameters themselves: the tables, the buffers and the state, in the order of the code
+
+-- a parameter as a `requires` has it, and as an `ensures` has it
+abbrev pub Slice : Type 0
+Slice = RefT (List ℕ)
+
+abbrev pub Moments : Type 0
+Moments = Both Slice Slice
+
+-- at the entry: the tables, and the buffers
+abbrev pub given : Slice → Slice → Slice → Slice → Tables
+given text tokens shapes states = tables (text .now) (tokens .now) (shapes .now) (states .now)
+
+abbrev pub lent : Slice → Slice → Buffers
+lent tree dropped = buffers (tree .now) (dropped .now)
+
+-- what a member that opens a node before it reads an item comes to
+abbrev pub Opened : Moments → Moments → Moments → Moments → Moments → Moments → Parser → Step → ℕ → (Tables → Inside) → Type 0
+Opened text tokens shapes states tree dropped p r gain rule =
+    let t = given (text .entry) (tokens .entry) (shapes .entry) (states .entry) in
+    Opening t gain (rule t) p (lent (tree .entry) (dropped .entry)) r (lent (tree .exit) (dropped .exit))
+
+-- what a member that reads items in the node that is open comes to
+abbrev pub Stayed : Moments → Moments → Moments → Moments → Moments → Moments → Parser → Step → ℕ → (Tables → Inside) → Type 0
+Stayed text tokens shapes states tree dropped p r gain rule =
+    let t = given (text .entry) (tokens .entry) (shapes .entry) (states .entry) in
+    Within t gain (rule t) p (lent (tree .entry) (dropped .entry)) r (lent (tree .exit) (dropped .exit))
 
 -- a token is next
 abbrev pub Next : Tables → Parser → Type 0

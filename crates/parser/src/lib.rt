@@ -13,7 +13,7 @@ ghost use Rattle.items.specs.Items.{shapeFor, pieceFor};
 ghost use Rattle.routines.specs.Contract.{MarkOk, Ready, Holding};
 ghost use Rattle.routines.specs.Stands.{markOf};
 ghost use Rattle.syntax.specs.ParseScope.{scopeOf};
-ghost use Rattle.parser.specs.Member.{tables, buffers, Opening, Within, Next, NextIf, WordIf, gainOf, itemsOf, insideOf, allArguments, greedyCommand, matchedCommand, attachmentAt, shapeIn};
+ghost use Rattle.parser.specs.Member.{given, lent, Opened, Stayed, Next, NextIf, WordIf, gainOf, itemsOf, insideOf, allArguments, greedyCommand, matchedCommand, attachmentAt, shapeIn};
 use arg_match::ArgMatcher;
 use arg_match::Argument;
 use arg_match::Tried;
@@ -74,8 +74,8 @@ fn items(
     p: Parser,
     extent: Extent,
 ) -> Step
-    requires { ⌜ Ready (tables (now text) (now tokens) (now shapes) (now states)) p (buffers (now tree) (now dropped)) × NextIf extent (tables (now text) (now tokens) (now shapes) (now states)) p ⌝ }
-    ensures { λ r. ⌜ Within (tables (now (text .entry)) (now (tokens .entry)) (now (shapes .entry)) (now (states .entry))) (gainOf extent) (λ n inner. itemsOf (tables (now (text .entry)) (now (tokens .entry)) (now (shapes .entry)) (now (states .entry))) extent n inner) p (buffers (now (tree .entry)) (now (dropped .entry))) r (buffers (now (tree .exit)) (now (dropped .exit))) ⌝ }
+    requires { let t = given text tokens shapes states in ⌜ Ready t p (lent tree dropped) × NextIf extent t p ⌝ }
+    ensures { λ r. ⌜ Stayed text tokens shapes states tree dropped p r (gainOf extent) (λ t. itemsOf t extent) ⌝ }
 {
     let mut now = p;
     let mut first = true;
@@ -101,8 +101,8 @@ fn inside(
     p: Parser,
     extent: Extent,
 ) -> Step
-    requires { ⌜ Ready (tables (now text) (now tokens) (now shapes) (now states)) p (buffers (now tree) (now dropped)) × NextIf extent (tables (now text) (now tokens) (now shapes) (now states)) p ⌝ }
-    ensures { λ r. ⌜ Within (tables (now (text .entry)) (now (tokens .entry)) (now (shapes .entry)) (now (states .entry))) (gainOf extent) (λ n inner. insideOf (tables (now (text .entry)) (now (tokens .entry)) (now (shapes .entry)) (now (states .entry))) extent n inner) p (buffers (now (tree .entry)) (now (dropped .entry))) r (buffers (now (tree .exit)) (now (dropped .exit))) ⌝ }
+    requires { let t = given text tokens shapes states in ⌜ Ready t p (lent tree dropped) × NextIf extent t p ⌝ }
+    ensures { λ r. ⌜ Stayed text tokens shapes states tree dropped p r (gainOf extent) (λ t. insideOf t extent) ⌝ }
 {
     let a = opened(p, extent);
     let r = items(text, tokens, shapes, states, tree, dropped, a, extent);
@@ -124,8 +124,8 @@ fn item_group(
     p: Parser,
     scope: ParseScope,
 ) -> Step
-    requires { ⌜ Ready (tables (now text) (now tokens) (now shapes) (now states)) p (buffers (now tree) (now dropped)) × Next (tables (now text) (now tokens) (now shapes) (now states)) p ⌝ }
-    ensures { λ r. ⌜ Opening (tables (now (text .entry)) (now (tokens .entry)) (now (shapes .entry)) (now (states .entry))) 1 (λ n inner. spec.itemGroup (flat n) (sourceOf (tables (now (text .entry)) (now (tokens .entry)) (now (shapes .entry)) (now (states .entry)))) inner (scopeOf scope)) p (buffers (now (tree .entry)) (now (dropped .entry))) r (buffers (now (tree .exit)) (now (dropped .exit))) ⌝ }
+    requires { let t = given text tokens shapes states in ⌜ Ready t p (lent tree dropped) × Next t p ⌝ }
+    ensures { λ r. ⌜ Opened text tokens shapes states tree dropped p r 1 (λ t n inner. spec.itemGroup (flat n) (sourceOf t) inner (scopeOf scope)) ⌝ }
 {
     let r = p.start_node(tree, group_kind(scope));
     let Step::Went(a) = r else {
@@ -166,8 +166,8 @@ fn piece(
     p: Parser,
     what: Piece,
 ) -> Step
-    requires { ⌜ Ready (tables (now text) (now tokens) (now shapes) (now states)) p (buffers (now tree) (now dropped)) × Next (tables (now text) (now tokens) (now shapes) (now states)) p × WordIf what (tables (now text) (now tokens) (now shapes) (now states)) p ⌝ }
-    ensures { λ r. ⌜ Within (tables (now (text .entry)) (now (tokens .entry)) (now (shapes .entry)) (now (states .entry))) 1 (λ n inner. spec.piece (flat n) (sourceOf (tables (now (text .entry)) (now (tokens .entry)) (now (shapes .entry)) (now (states .entry)))) inner (pieceFor what)) p (buffers (now (tree .entry)) (now (dropped .entry))) r (buffers (now (tree .exit)) (now (dropped .exit))) ⌝ }
+    requires { let t = given text tokens shapes states in ⌜ Ready t p (lent tree dropped) × Next t p × WordIf what t p ⌝ }
+    ensures { λ r. ⌜ Stayed text tokens shapes states tree dropped p r 1 (λ t n inner. spec.piece (flat n) (sourceOf t) inner (pieceFor what)) ⌝ }
 {
     match what {
         Piece::Character => word_character(text, tokens, tree, p),
@@ -188,8 +188,8 @@ fn argument(
     p: Parser,
     what: Piece,
 ) -> Step
-    requires { ⌜ Ready (tables (now text) (now tokens) (now shapes) (now states)) p (buffers (now tree) (now dropped)) × Next (tables (now text) (now tokens) (now shapes) (now states)) p × Holding p × WordIf what (tables (now text) (now tokens) (now shapes) (now states)) p ⌝ }
-    ensures { λ r. ⌜ Opening (tables (now (text .entry)) (now (tokens .entry)) (now (shapes .entry)) (now (states .entry))) 1 (λ n inner. spec.argument (flat n) (sourceOf (tables (now (text .entry)) (now (tokens .entry)) (now (shapes .entry)) (now (states .entry)))) inner (pieceFor what)) p (buffers (now (tree .entry)) (now (dropped .entry))) r (buffers (now (tree .exit)) (now (dropped .exit))) ⌝ }
+    requires { let t = given text tokens shapes states in ⌜ Ready t p (lent tree dropped) × Next t p × Holding p × WordIf what t p ⌝ }
+    ensures { λ r. ⌜ Opened text tokens shapes states tree dropped p r 1 (λ t n inner. spec.argument (flat n) (sourceOf t) inner (pieceFor what)) ⌝ }
 {
     let a = ignore_holding_trivia(dropped, p);
     let r = a.start_node(tree, SyntaxKind::CLAUSE_ARGUMENT);
@@ -218,8 +218,8 @@ fn arguments(
     p: Parser,
     m: ArgMatcher,
 ) -> Step
-    requires { ⌜ Ready (tables (now text) (now tokens) (now shapes) (now states)) p (buffers (now tree) (now dropped)) × Holding p ⌝ }
-    ensures { λ r. ⌜ Opening (tables (now (text .entry)) (now (tokens .entry)) (now (shapes .entry)) (now (states .entry))) 0 (λ n inner. allArguments (tables (now (text .entry)) (now (tokens .entry)) (now (shapes .entry)) (now (states .entry))) (matcherOf m) n inner) p (buffers (now (tree .entry)) (now (dropped .entry))) r (buffers (now (tree .exit)) (now (dropped .exit))) ⌝ }
+    requires { let t = given text tokens shapes states in ⌜ Ready t p (lent tree dropped) × Holding p ⌝ }
+    ensures { λ r. ⌜ Opened text tokens shapes states tree dropped p r 0 (λ t. allArguments t (matcherOf m)) ⌝ }
 {
     let mut now = p;
     let mut matcher = m;
@@ -281,8 +281,8 @@ fn match_arguments(
     p: Parser,
     m: ArgMatcher,
 ) -> Step
-    requires { ⌜ Ready (tables (now text) (now tokens) (now shapes) (now states)) p (buffers (now tree) (now dropped)) ⌝ }
-    ensures { λ r. ⌜ Opening (tables (now (text .entry)) (now (tokens .entry)) (now (shapes .entry)) (now (states .entry))) 0 (λ n inner. spec.matchArguments (flat n) (sourceOf (tables (now (text .entry)) (now (tokens .entry)) (now (shapes .entry)) (now (states .entry)))) inner (matcherOf m)) p (buffers (now (tree .entry)) (now (dropped .entry))) r (buffers (now (tree .exit)) (now (dropped .exit))) ⌝ }
+    requires { let t = given text tokens shapes states in ⌜ Ready t p (lent tree dropped) ⌝ }
+    ensures { λ r. ⌜ Opened text tokens shapes states tree dropped p r 0 (λ t n inner. spec.matchArguments (flat n) (sourceOf t) inner (matcherOf m)) ⌝ }
 {
     let list = p.list;
     let start = list.start;
@@ -307,8 +307,8 @@ fn greedy_rest(
     dropped: &mut [u32],
     p: Parser,
 ) -> Step
-    requires { ⌜ Ready (tables (now text) (now tokens) (now shapes) (now states)) p (buffers (now tree) (now dropped)) ⌝ }
-    ensures { λ r. ⌜ Opening (tables (now (text .entry)) (now (tokens .entry)) (now (shapes .entry)) (now (states .entry))) 0 (λ n inner. spec.greedyArgument (flat n) (sourceOf (tables (now (text .entry)) (now (tokens .entry)) (now (shapes .entry)) (now (states .entry)))) inner) p (buffers (now (tree .entry)) (now (dropped .entry))) r (buffers (now (tree .exit)) (now (dropped .exit))) ⌝ }
+    requires { let t = given text tokens shapes states in ⌜ Ready t p (lent tree dropped) ⌝ }
+    ensures { λ r. ⌜ Opened text tokens shapes states tree dropped p r 0 (λ t n inner. spec.greedyArgument (flat n) (sourceOf t) inner) ⌝ }
 {
     let r = p.start_node(tree, SyntaxKind::CLAUSE_ARGUMENT);
     let Step::Went(a) = r else {
@@ -342,8 +342,8 @@ fn greedy_command(
     p: Parser,
     at: Mark,
 ) -> Step
-    requires { ⌜ Ready (tables (now text) (now tokens) (now shapes) (now states)) p (buffers (now tree) (now dropped)) × Next (tables (now text) (now tokens) (now shapes) (now states)) p × MarkOk at (p .builder) ⌝ }
-    ensures { λ r. ⌜ Opening (tables (now (text .entry)) (now (tokens .entry)) (now (shapes .entry)) (now (states .entry))) 1 (λ n inner. greedyCommand (tables (now (text .entry)) (now (tokens .entry)) (now (shapes .entry)) (now (states .entry))) (markOf at) n inner) p (buffers (now (tree .entry)) (now (dropped .entry))) r (buffers (now (tree .exit)) (now (dropped .exit))) ⌝ }
+    requires { let t = given text tokens shapes states in ⌜ Ready t p (lent tree dropped) × Next t p × MarkOk at (p .builder) ⌝ }
+    ensures { λ r. ⌜ Opened text tokens shapes states tree dropped p r 1 (λ t. greedyCommand t (markOf at)) ⌝ }
 {
     let r = start_command_at(tree, p, at);
     let Step::Went(a) = r else {
@@ -372,8 +372,8 @@ fn matched(
     p: Parser,
     m: ArgMatcher,
 ) -> Step
-    requires { ⌜ Ready (tables (now text) (now tokens) (now shapes) (now states)) p (buffers (now tree) (now dropped)) × Next (tables (now text) (now tokens) (now shapes) (now states)) p ⌝ }
-    ensures { λ r. ⌜ Opening (tables (now (text .entry)) (now (tokens .entry)) (now (shapes .entry)) (now (states .entry))) 1 (λ n inner. matchedCommand (tables (now (text .entry)) (now (tokens .entry)) (now (shapes .entry)) (now (states .entry))) (matcherOf m) n inner) p (buffers (now (tree .entry)) (now (dropped .entry))) r (buffers (now (tree .exit)) (now (dropped .exit))) ⌝ }
+    requires { let t = given text tokens shapes states in ⌜ Ready t p (lent tree dropped) × Next t p ⌝ }
+    ensures { λ r. ⌜ Opened text tokens shapes states tree dropped p r 1 (λ t. matchedCommand t (matcherOf m)) ⌝ }
 {
     let r = p.start_node(tree, SyntaxKind::ITEM_CMD);
     let Step::Went(a) = r else {
@@ -404,8 +404,8 @@ fn command(
     dropped: &mut [u32],
     p: Parser,
 ) -> Step
-    requires { ⌜ Ready (tables (now text) (now tokens) (now shapes) (now states)) p (buffers (now tree) (now dropped)) × Next (tables (now text) (now tokens) (now shapes) (now states)) p ⌝ }
-    ensures { λ r. ⌜ Opening (tables (now (text .entry)) (now (tokens .entry)) (now (shapes .entry)) (now (states .entry))) 1 (λ n inner. spec.commandOf (flat n) (sourceOf (tables (now (text .entry)) (now (tokens .entry)) (now (shapes .entry)) (now (states .entry)))) inner (shapeIn (tables (now (text .entry)) (now (tokens .entry)) (now (shapes .entry)) (now (states .entry))) classCommand p)) p (buffers (now (tree .entry)) (now (dropped .entry))) r (buffers (now (tree .exit)) (now (dropped .exit))) ⌝ }
+    requires { let t = given text tokens shapes states in ⌜ Ready t p (lent tree dropped) × Next t p ⌝ }
+    ensures { λ r. ⌜ Opened text tokens shapes states tree dropped p r 1 (λ t n inner. spec.commandOf (flat n) (sourceOf t) inner (shapeIn t classCommand p)) ⌝ }
 {
     let shape = Shape::of_token(tokens, shapes, p.lexer.token).of_class(Class::COMMAND);
     if shape.name_only() {
@@ -456,8 +456,8 @@ fn begin_arguments(
     p: Parser,
     shape: Shape,
 ) -> Step
-    requires { ⌜ Ready (tables (now text) (now tokens) (now shapes) (now states)) p (buffers (now tree) (now dropped)) ⌝ }
-    ensures { λ r. ⌜ Opening (tables (now (text .entry)) (now (tokens .entry)) (now (shapes .entry)) (now (states .entry))) 0 (λ n inner. spec.environmentArguments (flat n) (sourceOf (tables (now (text .entry)) (now (tokens .entry)) (now (shapes .entry)) (now (states .entry)))) inner (shapeFor shape)) p (buffers (now (tree .entry)) (now (dropped .entry))) r (buffers (now (tree .exit)) (now (dropped .exit))) ⌝ }
+    requires { let t = given text tokens shapes states in ⌜ Ready t p (lent tree dropped) ⌝ }
+    ensures { λ r. ⌜ Opened text tokens shapes states tree dropped p r 0 (λ t n inner. spec.environmentArguments (flat n) (sourceOf t) inner (shapeFor shape)) ⌝ }
 {
     if shape.name_only() {
         return Step::Went(p.holding_none());
@@ -479,8 +479,8 @@ fn begin(
     dropped: &mut [u32],
     p: Parser,
 ) -> Step
-    requires { ⌜ Ready (tables (now text) (now tokens) (now shapes) (now states)) p (buffers (now tree) (now dropped)) × Next (tables (now text) (now tokens) (now shapes) (now states)) p ⌝ }
-    ensures { λ r. ⌜ Opening (tables (now (text .entry)) (now (tokens .entry)) (now (shapes .entry)) (now (states .entry))) 1 (λ n inner. spec.beginClause (flat n) (sourceOf (tables (now (text .entry)) (now (tokens .entry)) (now (shapes .entry)) (now (states .entry)))) inner) p (buffers (now (tree .entry)) (now (dropped .entry))) r (buffers (now (tree .exit)) (now (dropped .exit))) ⌝ }
+    requires { let t = given text tokens shapes states in ⌜ Ready t p (lent tree dropped) × Next t p ⌝ }
+    ensures { λ r. ⌜ Opened text tokens shapes states tree dropped p r 1 (λ t n inner. spec.beginClause (flat n) (sourceOf t) inner) ⌝ }
 {
     let shape = Shape::of_token(tokens, shapes, p.lexer.token).of_class(Class::ENVIRONMENT);
     let r = p.start_node(tree, SyntaxKind::ITEM_BEGIN);
@@ -513,8 +513,8 @@ fn environment(
     dropped: &mut [u32],
     p: Parser,
 ) -> Step
-    requires { ⌜ Ready (tables (now text) (now tokens) (now shapes) (now states)) p (buffers (now tree) (now dropped)) × Next (tables (now text) (now tokens) (now shapes) (now states)) p ⌝ }
-    ensures { λ r. ⌜ Opening (tables (now (text .entry)) (now (tokens .entry)) (now (shapes .entry)) (now (states .entry))) 1 (λ n inner. spec.environmentItem (flat n) (sourceOf (tables (now (text .entry)) (now (tokens .entry)) (now (shapes .entry)) (now (states .entry)))) inner) p (buffers (now (tree .entry)) (now (dropped .entry))) r (buffers (now (tree .exit)) (now (dropped .exit))) ⌝ }
+    requires { let t = given text tokens shapes states in ⌜ Ready t p (lent tree dropped) × Next t p ⌝ }
+    ensures { λ r. ⌜ Opened text tokens shapes states tree dropped p r 1 (λ t n inner. spec.environmentItem (flat n) (sourceOf t) inner) ⌝ }
 {
     let r = p.start_node(tree, SyntaxKind::ITEM_ENV);
     let Step::Went(a) = r else {
@@ -555,8 +555,8 @@ fn item_lr(
     dropped: &mut [u32],
     p: Parser,
 ) -> Step
-    requires { ⌜ Ready (tables (now text) (now tokens) (now shapes) (now states)) p (buffers (now tree) (now dropped)) × Next (tables (now text) (now tokens) (now shapes) (now states)) p ⌝ }
-    ensures { λ r. ⌜ Opening (tables (now (text .entry)) (now (tokens .entry)) (now (shapes .entry)) (now (states .entry))) 1 (λ n inner. spec.itemLr (flat n) (sourceOf (tables (now (text .entry)) (now (tokens .entry)) (now (shapes .entry)) (now (states .entry)))) inner) p (buffers (now (tree .entry)) (now (dropped .entry))) r (buffers (now (tree .exit)) (now (dropped .exit))) ⌝ }
+    requires { let t = given text tokens shapes states in ⌜ Ready t p (lent tree dropped) × Next t p ⌝ }
+    ensures { λ r. ⌜ Opened text tokens shapes states tree dropped p r 1 (λ t n inner. spec.itemLr (flat n) (sourceOf t) inner) ⌝ }
 {
     let r = p.start_node(tree, SyntaxKind::ITEM_LR);
     let Step::Went(a) = r else {
@@ -597,8 +597,8 @@ fn script(
     p: Parser,
     has_script: bool,
 ) -> Step
-    requires { ⌜ Ready (tables (now text) (now tokens) (now shapes) (now states)) p (buffers (now tree) (now dropped)) ⌝ }
-    ensures { λ r. ⌜ Within (tables (now (text .entry)) (now (tokens .entry)) (now (shapes .entry)) (now (states .entry))) 0 (λ n inner. spec.script (flat n) (sourceOf (tables (now (text .entry)) (now (tokens .entry)) (now (shapes .entry)) (now (states .entry)))) inner «has_script») p (buffers (now (tree .entry)) (now (dropped .entry))) r (buffers (now (tree .exit)) (now (dropped .exit))) ⌝ }
+    requires { let t = given text tokens shapes states in ⌜ Ready t p (lent tree dropped) ⌝ }
+    ensures { λ r. ⌜ Stayed text tokens shapes states tree dropped p r 0 (λ t n inner. spec.script (flat n) (sourceOf t) inner «has_script») ⌝ }
 {
     if !has_script {
         return Step::Went(p);
@@ -633,8 +633,8 @@ fn attachment(
     has_script: bool,
     at: Mark,
 ) -> Step
-    requires { ⌜ Ready (tables (now text) (now tokens) (now shapes) (now states)) p (buffers (now tree) (now dropped)) × Next (tables (now text) (now tokens) (now shapes) (now states)) p × MarkOk at (p .builder) ⌝ }
-    ensures { λ r. ⌜ Opening (tables (now (text .entry)) (now (tokens .entry)) (now (shapes .entry)) (now (states .entry))) 1 (λ n inner. attachmentAt (tables (now (text .entry)) (now (tokens .entry)) (now (shapes .entry)) (now (states .entry))) «has_script» (markOf at) n inner) p (buffers (now (tree .entry)) (now (dropped .entry))) r (buffers (now (tree .exit)) (now (dropped .exit))) ⌝ }
+    requires { let t = given text tokens shapes states in ⌜ Ready t p (lent tree dropped) × Next t p × MarkOk at (p .builder) ⌝ }
+    ensures { λ r. ⌜ Opened text tokens shapes states tree dropped p r 1 (λ t n inner. attachmentAt t «has_script» (markOf at) n inner) ⌝ }
 {
     let r = start_attach_at(tree, p, at);
     let Step::Went(a) = r else {
@@ -662,8 +662,8 @@ fn attach_component(
     p: Parser,
     has_script: bool,
 ) -> Step
-    requires { ⌜ Ready (tables (now text) (now tokens) (now shapes) (now states)) p (buffers (now tree) (now dropped)) × Next (tables (now text) (now tokens) (now shapes) (now states)) p ⌝ }
-    ensures { λ r. ⌜ Opening (tables (now (text .entry)) (now (tokens .entry)) (now (shapes .entry)) (now (states .entry))) 1 (λ n inner. spec.attachComponent (flat n) (sourceOf (tables (now (text .entry)) (now (tokens .entry)) (now (shapes .entry)) (now (states .entry)))) inner «has_script») p (buffers (now (tree .entry)) (now (dropped .entry))) r (buffers (now (tree .exit)) (now (dropped .exit))) ⌝ }
+    requires { let t = given text tokens shapes states in ⌜ Ready t p (lent tree dropped) × Next t p ⌝ }
+    ensures { λ r. ⌜ Opened text tokens shapes states tree dropped p r 1 (λ t n inner. spec.attachComponent (flat n) (sourceOf t) inner «has_script») ⌝ }
 {
     let list = p.list;
     let last = list.last;
@@ -695,8 +695,8 @@ fn content(
     dropped: &mut [u32],
     p: Parser,
 ) -> Step
-    requires { ⌜ Ready (tables (now text) (now tokens) (now shapes) (now states)) p (buffers (now tree) (now dropped)) × Next (tables (now text) (now tokens) (now shapes) (now states)) p ⌝ }
-    ensures { λ r. ⌜ Opening (tables (now (text .entry)) (now (tokens .entry)) (now (shapes .entry)) (now (states .entry))) 1 (λ n inner. spec.content (flat n) (sourceOf (tables (now (text .entry)) (now (tokens .entry)) (now (shapes .entry)) (now (states .entry)))) inner false) p (buffers (now (tree .entry)) (now (dropped .entry))) r (buffers (now (tree .exit)) (now (dropped .exit))) ⌝ }
+    requires { let t = given text tokens shapes states in ⌜ Ready t p (lent tree dropped) × Next t p ⌝ }
+    ensures { λ r. ⌜ Opened text tokens shapes states tree dropped p r 1 (λ t n inner. spec.content (flat n) (sourceOf t) inner false) ⌝ }
 {
     let token = p.lexer.token;
     let kind = cell(tokens, token, Column::KIND);

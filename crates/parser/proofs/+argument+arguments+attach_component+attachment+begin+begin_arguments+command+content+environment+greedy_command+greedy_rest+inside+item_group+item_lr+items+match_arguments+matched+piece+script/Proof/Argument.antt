@@ -16,6 +16,7 @@ use Rattle.routines.specs.Stands.{Buffers}
 use Rattle.routines.specs.declared.state.Parser.{Parser}
 use Rattle.routines.proofs.Walk.{Rule, line, Walk, begins, enters, passes, leaves, stops, opens, closes}
 use Rattle.parser.specs.Member.{tables, buffers, innerAt}
+use Rattle.parser.proofs.Turn.{finishes}
 use Rattle.parser.proofs.Cycle.{below, leaves-node}
 use Rattle.rules.specs.Outcome.{went}
 use Rattle.items.specs.Items.{pieceFor}
@@ -23,23 +24,12 @@ use Rattle.routines.proofs.HeldLaws.{droppable, ignores}
 use Rattle.routines.proofs.Walk.{arrives}
 use Rattle.parser.proofs.Cycle.{unholds}
 use Rattle.parser.proofs.Entry.{word-still}
-use Rattle.routines.proofs.state.Parser.finish_node.Reads as finish-node-reads
-use Rattle.builder.proofs.GreenNodeBuilder.frame.Reads as frame-reads
-use Rattle.routines.proofs.state.Parser.holding_none.Reads as holding-none-reads
-use Rattle.routines.proofs.ignore_holding_trivia.Reads as ignore-holding-trivia-reads
-use Rattle.parser.proofs.piece.Reads as piece
-use Rattle.routines.proofs.state.Parser.start_node.Reads as start-node-reads
-use Rattle.parser.proofs.argument.Reads as argument
-use Rattle.routines.proofs.state.Step.again.Reads as again-reads
-use Rattle.parser.proofs.+argument+arguments+attach_component+attachment+begin+begin_arguments+command+content+environment+greedy_command+greedy_rest+inside+item_group+item_lr+items+match_arguments+matched+piece+script.Lts-argument as argument-lts
-use Rattle.parser.proofs.+argument+arguments+attach_component+attachment+begin+begin_arguments+command+content+environment+greedy_command+greedy_rest+inside+item_group+item_lr+items+match_arguments+matched+piece+script.Proof.Measures.{piece-below, argument-at}
-
--- what each callee asks and gives, at the measure t
-abbrev pub argument-claims : ℕ → argument-lts.Claims
-argument-claims t = (ignore-holding-trivia-reads.Asked, ignore-holding-trivia-reads.Learnt, start-node-reads.Asked, start-node-reads.Learnt, again-reads.Asked, again-reads.Learnt, piece-below t, piece.Post, frame-reads.Asked, frame-reads.Learnt, finish-node-reads.Asked, finish-node-reads.Learnt, holding-none-reads.Asked, holding-none-reads.Learnt)
-
-abbrev Start : ℕ → Type 0
-Start t = argument-lts.Start (argument-claims t) (argument-at t) argument.Post
+use Rattle.parser.proofs.argument.Reads as own
+use Rattle.parser.proofs.+argument+arguments+attach_component+attachment+begin+begin_arguments+command+content+environment+greedy_command+greedy_rest+inside+item_group+item_lr+items+match_arguments+matched+piece+script as cycle
+use cycle.Lts-argument as lts
+use cycle.Proof.Measures as measures
+mod At
+use At.*
 
 abbrev T : {t : ℕ} → Start t → Tables
 T b = tables (b .args .text .now) (b .args .tokens .now) (b .args .shapes .now) (b .args .states .now)
@@ -60,76 +50,88 @@ plan b =
 -- the walk from the entry b, after so many steps
 abbrev Came : {t : ℕ} → Start t → ℕ → ℕ → ℕ → Parser → List ℕ → List ℕ → Type 0
 Came b done gain lift u tree dropped =
-    Walk (T b) (λ n d. spec.argument (flat n) (sourceOf (T b)) (innerAt (T b) n d) (pieceFor (b .args .what))) (drop done (plan b)) gain lift (b .args .p .list .scope) (b .args .p) (M b) u (buffers tree dropped)
+    Walk (T b) (λ n d. spec.argument (flat n) (sourceOf (T b)) (innerAt (T b) n d) (pieceFor (b .args .what))) (drop done (plan b)) gain lift
+    (b .args .p .list .scope) (b .args .p) (M b) u (buffers tree dropped)
 
-entry : (t : ℕ) (c : argument-lts.Start (argument-claims t) (argument-at t) argument.Post) → Came c 0 0 0 (c .args .p) (c .args .tree .now) (c .args .dropped .now)
+entry : (t : ℕ) (c : Start t) → Came c 0 0 0 (c .args .p) (c .args .tree .now) (c .args .dropped .now)
 unfolding spec.argument steps line
 entry t c = begins (c .pre .1 .0) (λ n d. refl)
 
-after-ignore : (t : ℕ) (c : argument-lts.After-ignore-holding-trivia (argument-claims t) (argument-at t) argument.Post) → Came (c .before .before .before .before .before .before .before .before) 1 0 0 (c .ignore-holding-trivia .result) (c .before .before .before .before .before .before .before .before .args .tree .now) (c .ignore-holding-trivia .last .0)
-after-ignore t c = passes (entry t (c .before .before .before .before .before .before .before .before)) (ignores (c .before .before .before .before .before .before .before .before .pre .1 .2) (c .ignore-holding-trivia .ensures)) refl
+after-ignore : (t : ℕ) (c : Place lts.After-ignore-holding-trivia t) → Came (ignore-holding-trivia→entry c) 1 0 0 (c .ignore-holding-trivia .result)
+    (ignore-holding-trivia→entry c .args .tree .now) (c .ignore-holding-trivia .last .0)
+after-ignore t c = passes (entry t (ignore-holding-trivia→entry c))
+    (ignores (ignore-holding-trivia→entry c .pre .1 .2) (c .ignore-holding-trivia .ensures)) refl
 
-after-r : (t : ℕ) (c : argument-lts.After-r (argument-claims t) (argument-at t) argument.Post) → Came (c .before .before .before .before .before .before .before .before .before .before .before .before .before .before .before .before) 2 0 1 (c .r .given .0 .0) (c .before .before .before .before .start-node .last .1 .0) (c .before .before .before .before .before .before .before .before .ignore-holding-trivia .last .0)
-after-r t c = enters (after-ignore t (c .before .before .before .before .before .before .before .before)) (opens (c .before .before .before .before .start-node .ensures (c .before .before .before .before .before .before .before .before .ignore-holding-trivia .last .0))) (c .r .given .1)
+after-r : (t : ℕ) (c : Place lts.After-r t) → Came (r→entry c) 2 0 1 (c .r .given .0 .0) (r→start-node c .start-node .last .1 .0)
+    (r→ignore-holding-trivia c .ignore-holding-trivia .last .0)
+after-r t c = enters (after-ignore t (r→ignore-holding-trivia c))
+    (opens (r→start-node c .start-node .ensures (r→ignore-holding-trivia c .ignore-holding-trivia .last .0))) (c .r .given .1)
 
-after-q : (t : ℕ) (c : argument-lts.After-q (argument-claims t) (argument-at t) argument.Post) → Came (c .before .before .before .before .before .before .before .before .before .before .before .before .before .before .before .before .before .before .before .before .before .before .before .before .before .before) 3 1 1 (c .q .given .0 .0) (c .before .before .before .before .before .before .piece .last .1 .1 .1 .1 .0) (c .before .before .before .before .before .before .piece .last .1 .1 .1 .1 .1 .0)
+after-q : (t : ℕ) (c : Place lts.After-q t) → Came (q→entry c) 3 1 1 (c .q .given .0 .0) (q→piece c .piece .last .1 .1 .1 .1 .0)
+    (q→piece c .piece .last .1 .1 .1 .1 .1 .0)
 unfolding spec.contentAt
-after-q t c = passes (after-r t (c .before .before .before .before .before .before .before .before .before .before)) (below (let w = after-r t (c .before .before .before .before .before .before .before .before .before .before) in omega arith) (c .before .before .before .before .before .before .piece .ensures)) (c .q .given .1)
+after-q t c = passes (after-r t (q→r c)) (below (let w = after-r t (q→r c) in omega arith) (q→piece c .piece .ensures)) (c .q .given .1)
 
-after-o : (t : ℕ) (c : argument-lts.After-o (argument-claims t) (argument-at t) argument.Post) → Came (c .before .before .before .before .before .before .before .before .before .before .before .before .before .before .before .before .before .before .before .before .before .before .before .before .before .before .before .before .before .before .before .before .before .before) 4 1 0 (c .o .given .0 .0) (c .before .before .before .before .finish-node .last .1 .0) (c .before .before .before .before .before .before .before .before .before .before .before .before .before .before .piece .last .1 .1 .1 .1 .1 .0)
-after-o t c = leaves-node (c .before .before .before .before .before .before .before .before .before .before .before .before .before .before .before .before .before .before .before .before .before .before .before .before .before .before .before .before .before .before .before .before .before .before .pre .1 .0) (after-q t (c .before .before .before .before .before .before .before .before)) (closes (rw (c .before .before .before .before .before .frame .ensures) at (c .before .before .before .before .finish-node .ensures (c .before .before .before .before .before .before .before .before .before .before .before .before .before .before .piece .last .1 .1 .1 .1 .1 .0)))) (c .o .given .1)
+after-o : (t : ℕ) (c : Place lts.After-o t) → Came (o→entry c) 4 1 0 (c .o .given .0 .0) (o→finish-node c .finish-node .last .1 .0)
+    (o→piece c .piece .last .1 .1 .1 .1 .1 .0)
+after-o t c = leaves-node (o→entry c .pre .1 .0) (after-q t (o→q c))
+    (finishes refl (o→frame c .frame .ensures) (o→finish-node c .finish-node .ensures)) (c .o .given .1)
 
-pub argument-ignore-holding-trivia-requires : (t : ℕ) → argument-lts.Need-ignore-holding-trivia-requires (argument-claims t) (argument-at t) argument.Post
-argument-ignore-holding-trivia-requires t c κs = droppable (c .before .before .before .before .before .before .before .pre .1 .0) (c .before .before .before .before .before .before .before .pre .1 .2)
-
-pub argument-start-node-requires : (t : ℕ) → argument-lts.Need-start-node-requires (argument-claims t) (argument-at t) argument.Post
-argument-start-node-requires t c κs = after-ignore t (c .before .before .before) .ready .steady .fits
-
-pub argument-same-length : (t : ℕ) → argument-lts.Need-same-length (argument-claims t) (argument-at t) argument.Post
-argument-same-length t c = c .before .before .before .before .before .start-node .kept .1 .0
-
-pub argument-same-length-2 : (t : ℕ) → argument-lts.Need-same-length-2 (argument-claims t) (argument-at t) argument.Post
-argument-same-length-2 t c = after-ignore t (c .before .before .before .before .before .before .before .before .before) .passed .notes-long
-
-pub argument-returns : (t : ℕ) → argument-lts.Need-returns (argument-claims t) (argument-at t) argument.Post
-argument-returns t c = rw (c .again .ensures) (stops (after-ignore t (c .before .before .before .before .before .before .before .before .before)) (opens (c .before .before .before .before .before .start-node .ensures (c .before .before .before .before .before .before .before .before .before .ignore-holding-trivia .last .0))) (c .before .enum-told .given))
-
-pub argument-piece-requires : (t : ℕ) → argument-lts.Need-piece-requires (argument-claims t) (argument-at t) argument.Post
-argument-piece-requires t c κs = let measure = c .before .before .before .before .before .before .before .before .before .before .before .before .before .before .before .before .before .before .before .pre .0 in
-    let w = after-r t (c .before .before .before) in
-    let same = leaves (after-ignore t (c .before .before .before .before .before .before .before .before .before .before .before)) (opens (c .before .before .before .before .before .before .before .start-node .ensures (c .before .before .before .before .before .before .before .before .before .before .before .ignore-holding-trivia .last .0))) (c .before .before .before .r .given .1) .lexer ∙ ap (λ (q : Parser). q .lexer) (c .before .before .before .before .before .before .before .before .before .before .before .ignore-holding-trivia .ensures .state) in
-    (omega arith, (w .ready, rw same (c .before .before .before .before .before .before .before .before .before .before .before .before .before .before .before .before .before .before .before .pre .1 .1), word-still (c .before .before .before .before .before .before .before .before .before .before .before .before .before .before .before .before .before .before .before .args .what) (T (c .before .before .before .before .before .before .before .before .before .before .before .before .before .before .before .before .before .before .before)) (c .before .before .before .before .before .before .before .before .before .before .before .before .before .before .before .before .before .before .before .args .p) (c .before .before .before .r .given .0 .0) same (c .before .before .before .before .before .before .before .before .before .before .before .before .before .before .before .before .before .before .before .pre .1 .3)))
-
-pub argument-same-length-3 : (t : ℕ) → argument-lts.Need-same-length-3 (argument-claims t) (argument-at t) argument.Post
-argument-same-length-3 t c = c .before .before .before .before .before .before .before .piece .kept .1 .1 .1 .1 .0 ∙ after-r t (c .before .before .before .before .before .before .before .before .before .before .before) .passed .tree-long
-
-pub argument-same-length-4 : (t : ℕ) → argument-lts.Need-same-length-4 (argument-claims t) (argument-at t) argument.Post
-argument-same-length-4 t c = c .before .before .before .before .before .before .before .piece .kept .1 .1 .1 .1 .1 .0 ∙ after-r t (c .before .before .before .before .before .before .before .before .before .before .before) .passed .notes-long
-
-pub argument-returns-2 : (t : ℕ) → argument-lts.Need-returns-2 (argument-claims t) (argument-at t) argument.Post
+argument-returns-2 : (t : ℕ) → lts.Need-returns-2 (claims t) (measures.argument .at t) own.Post
 unfolding spec.contentAt
-argument-returns-2 t c = rw (c .again2 .ensures) (stops (after-r t (c .before .before .before .before .before .before .before .before .before .before .before)) (below (let w = after-r t (c .before .before .before .before .before .before .before .before .before .before .before) in omega arith) (c .before .before .before .before .before .before .before .piece .ensures)) (c .before .enum-told2 .given))
+argument-returns-2 t c = rw (c .again2 .ensures) (stops (after-r t (again2→r c))
+    (below (let w = after-r t (again2→r c) in omega arith) (again2→piece c .piece .ensures)) (c .before .enum-told2 .given))
 
-pub argument-finish-node-requires : (t : ℕ) → argument-lts.Need-finish-node-requires (argument-claims t) (argument-at t) argument.Post
-argument-finish-node-requires t c κs = (after-q t (c .before .before .before) .ready .steady .fits, after-q t (c .before .before .before) .ready .within)
-
-pub argument-same-length-5 : (t : ℕ) → argument-lts.Need-same-length-5 (argument-claims t) (argument-at t) argument.Post
-argument-same-length-5 t c = c .before .before .before .before .before .finish-node .kept .1 .0 ∙ after-q t (c .before .before .before .before .before .before .before .before .before) .passed .tree-long
-
-pub argument-same-length-6 : (t : ℕ) → argument-lts.Need-same-length-6 (argument-claims t) (argument-at t) argument.Post
-argument-same-length-6 t c = after-q t (c .before .before .before .before .before .before .before .before .before) .passed .notes-long
-
-pub argument-returns-3 : (t : ℕ) → argument-lts.Need-returns-3 (argument-claims t) (argument-at t) argument.Post
-argument-returns-3 t c = rw (c .again3 .ensures) (stops (after-q t (c .before .before .before .before .before .before .before .before .before)) (closes (rw (c .before .before .before .before .before .before .frame .ensures) at (c .before .before .before .before .before .finish-node .ensures (c .before .before .before .before .before .before .before .before .before .before .before .before .before .before .before .piece .last .1 .1 .1 .1 .1 .0)))) (c .before .enum-told3 .given))
-
-pub argument-holding-none-requires : (t : ℕ) → argument-lts.Need-holding-none-requires (argument-claims t) (argument-at t) argument.Post
-argument-holding-none-requires t c κs = search needs
-
-pub argument-same-length-7 : (t : ℕ) → argument-lts.Need-same-length-7 (argument-claims t) (argument-at t) argument.Post
-argument-same-length-7 t c = after-o t (c .before .before) .passed .tree-long
-
-pub argument-same-length-8 : (t : ℕ) → argument-lts.Need-same-length-8 (argument-claims t) (argument-at t) argument.Post
-argument-same-length-8 t c = after-o t (c .before .before) .passed .notes-long
-
-pub argument-returns-4 : (t : ℕ) → argument-lts.Need-returns-4 (argument-claims t) (argument-at t) argument.Post
-argument-returns-4 t c = arrives (unholds (after-o t (c .before .before)) (c .holding-none .ensures) (λ n d. refl))
+pub meets : {W : Type 1} (t : ℕ) → lts.Closed (claims t) (measures.argument .at t) own.Post W
+meets t =
+    lts.spec (claims t) (measures.argument .at t) own.Post
+    -- ignore-holding-trivia
+    (λ c κs. droppable (ignore-holding-trivia-arg→entry c .pre .1 .0) (ignore-holding-trivia-arg→entry c .pre .1 .2))
+    -- start-node
+    (λ c κs. after-ignore t (start-node-arg→ignore-holding-trivia c) .ready .steady .fits)
+    (λ c. search needs)
+    (λ c. search needs)
+    (λ c κs. search needs)
+    (λ c. again→start-node c .start-node .kept .1 .0)
+    (λ c. after-ignore t (again→ignore-holding-trivia c) .passed .notes-long)
+    (λ c.
+    rw (c .again .ensures) (stops (after-ignore t (again→ignore-holding-trivia c))
+    (opens (again→start-node c .start-node .ensures (again→ignore-holding-trivia c .ignore-holding-trivia .last .0)))
+    (c .before .enum-told .given)))
+    -- piece
+    (λ c κs.
+    let measure = piece-arg2→entry c .pre .0 in
+    let w = after-r t (piece-arg2→r c) in
+    let same = leaves (after-ignore t (piece-arg2→ignore-holding-trivia c))
+    (opens (piece-arg2→start-node c .start-node .ensures (piece-arg2→ignore-holding-trivia c .ignore-holding-trivia .last .0)))
+    (piece-arg2→r c .r .given .1) .lexer ∙ ap (λ (q : Parser). q .lexer)
+    (piece-arg2→ignore-holding-trivia c .ignore-holding-trivia .ensures .state) in (
+      omega arith,
+      (
+        w .ready,
+        rw same (piece-arg2→entry c .pre .1 .1),
+        word-still (piece-arg2→entry c .args .what) (T (piece-arg2→entry c))
+            (piece-arg2→entry c .args .p) (piece-arg2→r c .r .given .0 .0) same (piece-arg2→entry c .pre .1 .3),
+      ),
+    ))
+    (λ c. search needs)
+    (λ c. search needs)
+    (λ c κs. search needs)
+    (λ c. again2→piece c .piece .kept .1 .1 .1 .1 .0 ∙ after-r t (again2→r c) .passed .tree-long)
+    (λ c. again2→piece c .piece .kept .1 .1 .1 .1 .1 .0 ∙ after-r t (again2→r c) .passed .notes-long)
+    (argument-returns-2 t)
+    (λ c κs. search needs)
+    -- finish-node
+    (λ c κs. (after-q t (frame→q c) .ready .steady .fits, after-q t (frame→q c) .ready .within))
+    (λ c. search needs)
+    (λ c. search needs)
+    (λ c κs. search needs)
+    (λ c. again3→finish-node c .finish-node .kept .1 .0 ∙ after-q t (again3→q c) .passed .tree-long)
+    (λ c. after-q t (again3→q c) .passed .notes-long)
+    (λ c.
+    rw (c .again3 .ensures) (stops (after-q t (again3→q c))
+    (finishes refl (again3→frame c .frame .ensures) (again3→finish-node c .finish-node .ensures)) (c .before .enum-told3 .given)))
+    (λ c κs. search needs)
+    (λ c. after-o t (holding-none→o c) .passed .tree-long)
+    (λ c. after-o t (holding-none→o c) .passed .notes-long)
+    (λ c. arrives (unholds (after-o t (holding-none→o c)) (c .holding-none .ensures) (λ n d. refl)))

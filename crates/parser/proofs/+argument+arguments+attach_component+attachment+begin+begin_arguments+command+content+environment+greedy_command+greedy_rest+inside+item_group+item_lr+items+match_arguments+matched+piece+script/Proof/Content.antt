@@ -33,28 +33,12 @@ use Rattle.items.specs.Items.{itemFor}
 use Rattle.items.specs.declared.item.Item.{Item}
 use Rattle.items.specs.declared.item.Item.the-variants.{Plain, Error, Word, Comma, Group, Attachment, Command, Environment, LeftRight, Skipped}
 use Rattle.parser.proofs.Cycle.{ran-runs}
-use Rattle.parser.proofs.attach_component.Reads as attach-component
-use Rattle.lexer.proofs.cell.Reads as cell-reads
-use Rattle.parser.proofs.command.Reads as command
-use Rattle.routines.proofs.eat.Reads as eat-reads
-use Rattle.parser.proofs.environment.Reads as environment
-use Rattle.parser.proofs.item_group.Reads as item-group
-use Rattle.parser.proofs.item_lr.Reads as item-lr
-use Rattle.items.proofs.item_of.Reads as item-of-reads
-use Rattle.routines.proofs.one_in.Reads as one-in-reads
-use Rattle.routines.proofs.skipped_body.Reads as skipped-body-reads
-use Rattle.routines.proofs.text.Reads as text-reads
-use Rattle.parser.proofs.content.Reads as content
-use Rattle.routines.proofs.state.Step.again.Reads as again-reads
-use Rattle.parser.proofs.+argument+arguments+attach_component+attachment+begin+begin_arguments+command+content+environment+greedy_command+greedy_rest+inside+item_group+item_lr+items+match_arguments+matched+piece+script.Lts-content as content-lts
-use Rattle.parser.proofs.+argument+arguments+attach_component+attachment+begin+begin_arguments+command+content+environment+greedy_command+greedy_rest+inside+item_group+item_lr+items+match_arguments+matched+piece+script.Proof.Measures.{attach-component-below, command-below, environment-below, item-group-below, item-lr-below, content-at}
-
--- what each callee asks and gives, at the measure t
-abbrev pub content-claims : ℕ → content-lts.Claims
-content-claims t = (cell-reads.Asked, cell-reads.Learnt, item-of-reads.Asked, item-of-reads.Learnt, eat-reads.Asked, eat-reads.Learnt, one-in-reads.Asked, one-in-reads.Learnt, text-reads.Asked, text-reads.Learnt, item-group-below t, item-group.Post, again-reads.Asked, again-reads.Learnt, attach-component-below t, attach-component.Post, command-below t, command.Post, environment-below t, environment.Post, item-lr-below t, item-lr.Post, skipped-body-reads.Asked, skipped-body-reads.Learnt)
-
-abbrev Start : ℕ → Type 0
-Start t = content-lts.Start (content-claims t) (content-at t) content.Post
+use Rattle.parser.proofs.content.Reads as own
+use Rattle.parser.proofs.+argument+arguments+attach_component+attachment+begin+begin_arguments+command+content+environment+greedy_command+greedy_rest+inside+item_group+item_lr+items+match_arguments+matched+piece+script as cycle
+use cycle.Lts-content as lts
+use cycle.Proof.Measures as measures
+mod At
+use At.*
 
 abbrev T : {t : ℕ} → Start t → Tables
 T b = tables (b .args .text .now) (b .args .tokens .now) (b .args .shapes .now) (b .args .states .now)
@@ -79,7 +63,8 @@ text-item LeftRight h = other-tag 8 refl h
 text-item (Skipped node) h = other-tag 9 refl h
 
 -- what the rule comes to, by the item that is next
-module _ (n : ℕ) (t : Tables) (inner : Bool → position.Rule (flat n)) (p : position.At (flat n)) (item : Item) (there : p .lexer .token < tokenCount (t .tokens)) (is : itemFor item ≡ itemOf (kindAt (t .tokens) (p .lexer .token))) where
+module _ (n : ℕ) (t : Tables) (inner : Bool → position.Rule (flat n)) (p : position.At (flat n)) (item : Item)
+    (there : p .lexer .token < tokenCount (t .tokens)) (is : itemFor item ≡ itemOf (kindAt (t .tokens) (p .lexer .token))) where
   reads : spec.content (flat n) (sourceOf t) inner false p ≡ spec.readItem (flat n) (sourceOf t) inner false (itemFor item) p
   unfolding spec.content
   reads = rw (peek-some (t .tokens) (p .lexer) there, is)
@@ -99,15 +84,18 @@ module _ (n : ℕ) (t : Tables) (inner : Bool → position.Rule (flat n)) (p : p
   unfolding spec.readItem
   is-text e = ⊎-elim (reads-as Word) (reads-as Comma) e
 
-  is-group : (scope : ParseScope) → item ≡ (Group scope) → spec.content (flat n) (sourceOf t) inner false p ≡ spec.itemGroup (flat n) (sourceOf t) inner (scopeOf scope) p
+  is-group : (scope : ParseScope) → item ≡ (Group scope) → spec.content (flat n) (sourceOf t) inner false p ≡ spec.itemGroup (flat n) (sourceOf t)
+      inner (scopeOf scope) p
   unfolding spec.readItem
   is-group scope e = reads-as (Group scope) e
 
-  is-attachment : (script : Bool) → item ≡ (Attachment script) → spec.content (flat n) (sourceOf t) inner false p ≡ spec.attachComponent (flat n) (sourceOf t) inner script p
+  is-attachment : (script : Bool) → item ≡ (Attachment script) → spec.content (flat n) (sourceOf t) inner false p ≡ spec.attachComponent (flat n)
+      (sourceOf t) inner script p
   unfolding spec.readItem
   is-attachment script e = reads-as (Attachment script) e
 
-  is-command : item ≡ Command → spec.content (flat n) (sourceOf t) inner false p ≡ spec.commandOf (flat n) (sourceOf t) inner (ofClass classCommand (shapeOf t (p .lexer .token))) p
+  is-command : item ≡ Command → spec.content (flat n) (sourceOf t) inner false p ≡ spec.commandOf (flat n) (sourceOf t) inner
+      (ofClass classCommand (shapeOf t (p .lexer .token))) p
   unfolding spec.readItem
   is-command e = reads-as Command e
 
@@ -119,116 +107,124 @@ module _ (n : ℕ) (t : Tables) (inner : Bool → position.Rule (flat n)) (p : p
   unfolding spec.readItem
   is-left-right e = reads-as LeftRight e
 
-  is-skipped : (node : ℕ) → item ≡ (Skipped node) → spec.content (flat n) (sourceOf t) inner false p ≡ routine.skippedBody (flat n) (sourceOf t) node p
+  is-skipped : (node : ℕ) → item ≡ (Skipped node) → spec.content (flat n) (sourceOf t) inner false p ≡ routine.skippedBody (flat n) (sourceOf t) node
+      p
   unfolding spec.readItem
   is-skipped node e = reads-as (Skipped node) e
 
-pub content-cell-requires : (t : ℕ) → content-lts.Need-cell-requires (content-claims t) (content-at t) content.Post
-content-cell-requires t c κs = (c .before .before .before .before .before .before .pre .1 .1, omega arith)
-
-pub content-item-of-requires : (t : ℕ) → content-lts.Need-item-of-requires (content-claims t) (content-at t) content.Post
-content-item-of-requires t c κs = search needs
-
-pub content-eat-requires : (t : ℕ) → content-lts.Need-eat-requires (content-claims t) (content-at t) content.Post
-content-eat-requires t c κs = (c .before .before .before .before .before .before .before .before .before .before .before .pre .1 .1, somehow refl (c .before .before .before .before .before .before .before .before .before .before .before .pre .1 .0))
-
-pub content-one-in-requires : (t : ℕ) → content-lts.Need-one-in-requires (content-claims t) (content-at t) content.Post
-content-one-in-requires t c κs = (c .before .before .before .before .before .before .before .before .before .before .before .pre .1 .1, somehow refl (c .before .before .before .before .before .before .before .before .before .before .before .pre .1 .0))
-
-pub content-text-requires : (t : ℕ) → content-lts.Need-text-requires (content-claims t) (content-at t) content.Post
-content-text-requires t c κs = (c .before .before .before .before .before .before .before .before .before .before .pre .1 .1, somehow refl (c .before .before .before .before .before .before .before .before .before .before .pre .1 .0))
-
-pub content-item-group-requires : (t : ℕ) → content-lts.Need-item-group-requires (content-claims t) (content-at t) content.Post
-content-item-group-requires t c κs = let measure = c .before .before .before .before .before .before .before .before .before .before .before .before .before .pre .0 in
-    (omega arith, (c .before .before .before .before .before .before .before .before .before .before .before .before .before .pre .1 .0, c .before .before .before .before .before .before .before .before .before .before .before .before .before .pre .1 .1))
-
-pub content-attach-component-requires : (t : ℕ) → content-lts.Need-attach-component-requires (content-claims t) (content-at t) content.Post
-content-attach-component-requires t c κs = let measure = c .before .before .before .before .before .before .before .before .before .before .before .before .before .pre .0 in
-    (omega arith, (c .before .before .before .before .before .before .before .before .before .before .before .before .before .pre .1 .0, c .before .before .before .before .before .before .before .before .before .before .before .before .before .pre .1 .1))
-
-pub content-command-requires : (t : ℕ) → content-lts.Need-command-requires (content-claims t) (content-at t) content.Post
-content-command-requires t c κs = let measure = c .before .before .before .before .before .before .before .before .before .before .before .before .pre .0 in
-    (omega arith, (c .before .before .before .before .before .before .before .before .before .before .before .before .pre .1 .0, c .before .before .before .before .before .before .before .before .before .before .before .before .pre .1 .1))
-
-pub content-environment-requires : (t : ℕ) → content-lts.Need-environment-requires (content-claims t) (content-at t) content.Post
-content-environment-requires t c κs = let measure = c .before .before .before .before .before .before .before .before .before .before .before .before .pre .0 in
-    (omega arith, (c .before .before .before .before .before .before .before .before .before .before .before .before .pre .1 .0, c .before .before .before .before .before .before .before .before .before .before .before .before .pre .1 .1))
-
-pub content-item-lr-requires : (t : ℕ) → content-lts.Need-item-lr-requires (content-claims t) (content-at t) content.Post
-content-item-lr-requires t c κs = let measure = c .before .before .before .before .before .before .before .before .before .before .before .before .pre .0 in
-    (omega arith, (c .before .before .before .before .before .before .before .before .before .before .before .before .pre .1 .0, c .before .before .before .before .before .before .before .before .before .before .before .before .pre .1 .1))
-
-pub content-skipped-body-requires : (t : ℕ) → content-lts.Need-skipped-body-requires (content-claims t) (content-at t) content.Post
-content-skipped-body-requires t c κs = (c .before .before .before .before .before .before .before .before .before .before .before .before .before .pre .1 .1, record { t = T (c .before .before .before .before .before .before .before .before .before .before .before .before .before); seen = refl; ready = c .before .before .before .before .before .before .before .before .before .before .before .before .before .pre .1 .0 })
-
-pub content-same-length : (t : ℕ) → content-lts.Need-same-length (content-claims t) (content-at t) content.Post
-content-same-length t c = c .before .before .eat .kept .1 .0
-
-pub content-returns : (t : ℕ) → content-lts.Need-returns (content-claims t) (content-at t) content.Post
-content-returns t c = runs-as (ran-runs refl (c .before .before .before .before .before .before .before .before .before .before .before .before .before .before .pre .1 .0) (c .before .before .eat .ensures (c .before .before .before .before .before .before .before .before .before .before .before .before .before .before .args .dropped .now))) (λ n d. is-plain n (T (c .before .before .before .before .before .before .before .before .before .before .before .before .before .before)) (innerAt (T (c .before .before .before .before .before .before .before .before .before .before .before .before .before .before)) n d) (posOf (c .before .before .before .before .before .before .before .before .before .before .before .before .before .before .args .p) (M (c .before .before .before .before .before .before .before .before .before .before .before .before .before .before))) (c .before .before .before .before .before .before .item-of .result) (c .before .before .before .before .before .before .before .before .before .before .before .before .before .before .pre .1 .1) (c .before .before .before .before .before .before .item-of .ensures ∙ ap itemOf (c .before .before .before .before .before .before .before .cell .ensures)) (c .before .before .before .before .enum-told .given .1))
-
-pub content-same-length-2 : (t : ℕ) → content-lts.Need-same-length-2 (content-claims t) (content-at t) content.Post
-content-same-length-2 t c = c .before .before .one-in .kept .1 .0
-
-pub content-returns-2 : (t : ℕ) → content-lts.Need-returns-2 (content-claims t) (content-at t) content.Post
-content-returns-2 t c = runs-as (ran-runs refl (c .before .before .before .before .before .before .before .before .before .before .before .before .before .before .pre .1 .0) (c .before .before .one-in .ensures (c .before .before .before .before .before .before .before .before .before .before .before .before .before .before .args .dropped .now))) (λ n d. is-error n (T (c .before .before .before .before .before .before .before .before .before .before .before .before .before .before)) (innerAt (T (c .before .before .before .before .before .before .before .before .before .before .before .before .before .before)) n d) (posOf (c .before .before .before .before .before .before .before .before .before .before .before .before .before .before .args .p) (M (c .before .before .before .before .before .before .before .before .before .before .before .before .before .before))) (c .before .before .before .before .before .before .item-of .result) (c .before .before .before .before .before .before .before .before .before .before .before .before .before .before .pre .1 .1) (c .before .before .before .before .before .before .item-of .ensures ∙ ap itemOf (c .before .before .before .before .before .before .before .cell .ensures)) (c .before .before .before .before .enum-told2 .given .1))
-
-pub content-same-length-3 : (t : ℕ) → content-lts.Need-same-length-3 (content-claims t) (content-at t) content.Post
-content-same-length-3 t c = c .before .before .text .kept .1 .0
-
-pub content-returns-3 : (t : ℕ) → content-lts.Need-returns-3 (content-claims t) (content-at t) content.Post
-content-returns-3 t c = runs-as (ran-runs refl (c .before .before .before .before .before .before .before .before .before .before .before .before .before .pre .1 .0) (c .before .before .text .ensures (c .before .before .before .before .before .before .before .before .before .before .before .before .before .args .dropped .now))) (λ n d. is-text n (T (c .before .before .before .before .before .before .before .before .before .before .before .before .before)) (innerAt (T (c .before .before .before .before .before .before .before .before .before .before .before .before .before)) n d) (posOf (c .before .before .before .before .before .before .before .before .before .before .before .before .before .args .p) (M (c .before .before .before .before .before .before .before .before .before .before .before .before .before))) (c .before .before .before .before .before .item-of .result) (c .before .before .before .before .before .before .before .before .before .before .before .before .before .pre .1 .1) (c .before .before .before .before .before .item-of .ensures ∙ ap itemOf (c .before .before .before .before .before .before .cell .ensures)) (text-item (c .before .before .before .before .before .item-of .result) (c .before .before .before .before .match .keys3)))
-
-pub content-same-length-4 : (t : ℕ) → content-lts.Need-same-length-4 (content-claims t) (content-at t) content.Post
-content-same-length-4 t c = c .before .before .before .before .before .item-group .kept .1 .1 .1 .1 .0
-
-pub content-same-length-5 : (t : ℕ) → content-lts.Need-same-length-5 (content-claims t) (content-at t) content.Post
-content-same-length-5 t c = c .before .before .before .before .before .item-group .kept .1 .1 .1 .1 .1 .0
-
-pub content-returns-4 : (t : ℕ) → content-lts.Need-returns-4 (content-claims t) (content-at t) content.Post
-content-returns-4 t c = rw (c .again .ensures) (runs-as (c .before .before .before .before .before .item-group .ensures) (λ n d. is-group n (T (c .before .before .before .before .before .before .before .before .before .before .before .before .before .before .before .before .before .before .before)) (innerAt (T (c .before .before .before .before .before .before .before .before .before .before .before .before .before .before .before .before .before .before .before)) n d) (posOf (c .before .before .before .before .before .before .before .before .before .before .before .before .before .before .before .before .before .before .before .args .p) (M (c .before .before .before .before .before .before .before .before .before .before .before .before .before .before .before .before .before .before .before))) (c .before .before .before .before .before .before .before .before .before .before .before .item-of .result) (c .before .before .before .before .before .before .before .before .before .before .before .before .before .before .before .before .before .before .before .pre .1 .1) (c .before .before .before .before .before .before .before .before .before .before .before .item-of .ensures ∙ ap itemOf (c .before .before .before .before .before .before .before .before .before .before .before .before .cell .ensures)) (c .before .before .before .before .before .before .before .before .before .item .given .0 .0) (c .before .before .before .before .before .before .before .before .before .item .given .1)))
-
-pub content-same-length-6 : (t : ℕ) → content-lts.Need-same-length-6 (content-claims t) (content-at t) content.Post
-content-same-length-6 t c = c .before .before .before .before .attach-component .kept .1 .1 .1 .1 .0
-
-pub content-same-length-7 : (t : ℕ) → content-lts.Need-same-length-7 (content-claims t) (content-at t) content.Post
-content-same-length-7 t c = c .before .before .before .before .attach-component .kept .1 .1 .1 .1 .1 .0
-
-pub content-returns-5 : (t : ℕ) → content-lts.Need-returns-5 (content-claims t) (content-at t) content.Post
-content-returns-5 t c = runs-as (c .before .before .before .before .attach-component .ensures) (λ n d. is-attachment n (T (c .before .before .before .before .before .before .before .before .before .before .before .before .before .before .before .before .before .before)) (innerAt (T (c .before .before .before .before .before .before .before .before .before .before .before .before .before .before .before .before .before .before)) n d) (posOf (c .before .before .before .before .before .before .before .before .before .before .before .before .before .before .before .before .before .before .args .p) (M (c .before .before .before .before .before .before .before .before .before .before .before .before .before .before .before .before .before .before))) (c .before .before .before .before .before .before .before .before .before .before .item-of .result) (c .before .before .before .before .before .before .before .before .before .before .before .before .before .before .before .before .before .before .pre .1 .1) (c .before .before .before .before .before .before .before .before .before .before .item-of .ensures ∙ ap itemOf (c .before .before .before .before .before .before .before .before .before .before .before .cell .ensures)) (c .before .before .before .before .before .before .before .before .item2 .given .0 .0) (c .before .before .before .before .before .before .before .before .item2 .given .1))
-
-pub content-same-length-8 : (t : ℕ) → content-lts.Need-same-length-8 (content-claims t) (content-at t) content.Post
-content-same-length-8 t c = c .before .before .before .before .command .kept .1 .1 .1 .1 .0
-
-pub content-same-length-9 : (t : ℕ) → content-lts.Need-same-length-9 (content-claims t) (content-at t) content.Post
-content-same-length-9 t c = c .before .before .before .before .command .kept .1 .1 .1 .1 .1 .0
-
-pub content-returns-6 : (t : ℕ) → content-lts.Need-returns-6 (content-claims t) (content-at t) content.Post
-content-returns-6 t c = runs-as (c .before .before .before .before .command .ensures) (λ n d. is-command n (T (c .before .before .before .before .before .before .before .before .before .before .before .before .before .before .before .before .before)) (innerAt (T (c .before .before .before .before .before .before .before .before .before .before .before .before .before .before .before .before .before)) n d) (posOf (c .before .before .before .before .before .before .before .before .before .before .before .before .before .before .before .before .before .args .p) (M (c .before .before .before .before .before .before .before .before .before .before .before .before .before .before .before .before .before))) (c .before .before .before .before .before .before .before .before .before .item-of .result) (c .before .before .before .before .before .before .before .before .before .before .before .before .before .before .before .before .before .pre .1 .1) (c .before .before .before .before .before .before .before .before .before .item-of .ensures ∙ ap itemOf (c .before .before .before .before .before .before .before .before .before .before .cell .ensures)) (c .before .before .before .before .before .before .before .enum-told3 .given .1))
-
-pub content-same-length-10 : (t : ℕ) → content-lts.Need-same-length-10 (content-claims t) (content-at t) content.Post
-content-same-length-10 t c = c .before .before .before .before .environment .kept .1 .1 .1 .1 .0
-
-pub content-same-length-11 : (t : ℕ) → content-lts.Need-same-length-11 (content-claims t) (content-at t) content.Post
-content-same-length-11 t c = c .before .before .before .before .environment .kept .1 .1 .1 .1 .1 .0
-
-pub content-returns-7 : (t : ℕ) → content-lts.Need-returns-7 (content-claims t) (content-at t) content.Post
-content-returns-7 t c = runs-as (c .before .before .before .before .environment .ensures) (λ n d. is-environment n (T (c .before .before .before .before .before .before .before .before .before .before .before .before .before .before .before .before .before)) (innerAt (T (c .before .before .before .before .before .before .before .before .before .before .before .before .before .before .before .before .before)) n d) (posOf (c .before .before .before .before .before .before .before .before .before .before .before .before .before .before .before .before .before .args .p) (M (c .before .before .before .before .before .before .before .before .before .before .before .before .before .before .before .before .before))) (c .before .before .before .before .before .before .before .before .before .item-of .result) (c .before .before .before .before .before .before .before .before .before .before .before .before .before .before .before .before .before .pre .1 .1) (c .before .before .before .before .before .before .before .before .before .item-of .ensures ∙ ap itemOf (c .before .before .before .before .before .before .before .before .before .before .cell .ensures)) (c .before .before .before .before .before .before .before .enum-told4 .given .1))
-
-pub content-same-length-12 : (t : ℕ) → content-lts.Need-same-length-12 (content-claims t) (content-at t) content.Post
-content-same-length-12 t c = c .before .before .before .before .item-lr .kept .1 .1 .1 .1 .0
-
-pub content-same-length-13 : (t : ℕ) → content-lts.Need-same-length-13 (content-claims t) (content-at t) content.Post
-content-same-length-13 t c = c .before .before .before .before .item-lr .kept .1 .1 .1 .1 .1 .0
-
-pub content-returns-8 : (t : ℕ) → content-lts.Need-returns-8 (content-claims t) (content-at t) content.Post
-content-returns-8 t c = runs-as (c .before .before .before .before .item-lr .ensures) (λ n d. is-left-right n (T (c .before .before .before .before .before .before .before .before .before .before .before .before .before .before .before .before .before)) (innerAt (T (c .before .before .before .before .before .before .before .before .before .before .before .before .before .before .before .before .before)) n d) (posOf (c .before .before .before .before .before .before .before .before .before .before .before .before .before .before .before .before .before .args .p) (M (c .before .before .before .before .before .before .before .before .before .before .before .before .before .before .before .before .before))) (c .before .before .before .before .before .before .before .before .before .item-of .result) (c .before .before .before .before .before .before .before .before .before .before .before .before .before .before .before .before .before .pre .1 .1) (c .before .before .before .before .before .before .before .before .before .item-of .ensures ∙ ap itemOf (c .before .before .before .before .before .before .before .before .before .before .cell .ensures)) (c .before .before .before .before .before .before .before .enum-told5 .given .1))
-
-pub content-same-length-14 : (t : ℕ) → content-lts.Need-same-length-14 (content-claims t) (content-at t) content.Post
-content-same-length-14 t c = c .before .before .before .before .skipped-body .kept .1 .0
-
-pub content-same-length-15 : (t : ℕ) → content-lts.Need-same-length-15 (content-claims t) (content-at t) content.Post
-content-same-length-15 t c = c .before .before .before .before .skipped-body .kept .1 .1 .0
-
-pub content-returns-9 : (t : ℕ) → content-lts.Need-returns-9 (content-claims t) (content-at t) content.Post
-content-returns-9 t c = runs-as (ran-runs refl (c .before .before .before .before .before .before .before .before .before .before .before .before .before .before .before .before .before .before .pre .1 .0) (c .before .before .before .before .skipped-body .ensures)) (λ n d. is-skipped n (T (c .before .before .before .before .before .before .before .before .before .before .before .before .before .before .before .before .before .before)) (innerAt (T (c .before .before .before .before .before .before .before .before .before .before .before .before .before .before .before .before .before .before)) n d) (posOf (c .before .before .before .before .before .before .before .before .before .before .before .before .before .before .before .before .before .before .args .p) (M (c .before .before .before .before .before .before .before .before .before .before .before .before .before .before .before .before .before .before))) (c .before .before .before .before .before .before .before .before .before .before .item-of .result) (c .before .before .before .before .before .before .before .before .before .before .before .before .before .before .before .before .before .before .pre .1 .1) (c .before .before .before .before .before .before .before .before .before .before .item-of .ensures ∙ ap itemOf (c .before .before .before .before .before .before .before .before .before .before .before .cell .ensures)) (c .before .before .before .before .before .before .before .before .item3 .given .0 .0) (c .before .before .before .before .before .before .before .before .item3 .given .1))
+pub meets : {W : Type 1} (t : ℕ) → lts.Closed (claims t) (measures.content .at t) own.Post W
+meets t =
+    lts.spec (claims t) (measures.content .at t) own.Post
+    -- cell
+    (λ c κs. (slice-known2→entry c .pre .1 .1, omega arith))
+    (λ c κs. search needs)
+    (λ c. search needs)
+    -- eat
+    (λ c κs. (eat-arg→entry c .pre .1 .1, somehow refl (eat-arg→entry c .pre .1 .0)))
+    (λ c. search needs)
+    -- one-in
+    (λ c κs. (one-in-arg→entry c .pre .1 .1, somehow refl (one-in-arg→entry c .pre .1 .0)))
+    -- text
+    (λ c κs. (text-arg→entry c .pre .1 .1, somehow refl (text-arg→entry c .pre .1 .0)))
+    (λ c. search needs)
+    -- item-group
+    (λ c κs.
+    let measure = item-group-arg2→entry c .pre .0 in
+    (omega arith, (item-group-arg2→entry c .pre .1 .0, item-group-arg2→entry c .pre .1 .1)))
+    (λ c κs. search needs)
+    (λ c. search needs)
+    -- attach-component
+    (λ c κs.
+    let measure = attach-component-arg2→entry c .pre .0 in
+    (omega arith, (attach-component-arg2→entry c .pre .1 .0, attach-component-arg2→entry c .pre .1 .1)))
+    (λ c. search needs)
+    -- command
+    (λ c κs.
+    let measure = command-arg2→entry c .pre .0 in
+    (omega arith, (command-arg2→entry c .pre .1 .0, command-arg2→entry c .pre .1 .1)))
+    (λ c. search needs)
+    -- environment
+    (λ c κs.
+    let measure = environment-arg2→entry c .pre .0 in
+    (omega arith, (environment-arg2→entry c .pre .1 .0, environment-arg2→entry c .pre .1 .1)))
+    (λ c. search needs)
+    -- item-lr
+    (λ c κs.
+    let measure = item-lr-arg2→entry c .pre .0 in
+    (omega arith, (item-lr-arg2→entry c .pre .1 .0, item-lr-arg2→entry c .pre .1 .1)))
+    (λ c. search needs)
+    -- skipped-body
+    (λ c κs. (
+      skipped-body-arg2→entry c .pre .1 .1,
+      record
+          { t = T (skipped-body-arg2→entry c); seen = refl; ready = skipped-body-arg2→entry c .pre .1 .0 },
+    ))
+    (λ c. returns→eat c .eat .kept .1 .0)
+    (λ c.
+    runs-as (ran-runs refl (returns→entry c .pre .1 .0) (returns→eat c .eat .ensures (returns→entry c .args .dropped .now)))
+    (λ n d. is-plain n (T (returns→entry c)) (innerAt (T (returns→entry c)) n d)
+    (posOf (returns→entry c .args .p) (M (returns→entry c))) (returns→item-of c .item-of .result)
+    (returns→entry c .pre .1 .1) (returns→item-of c .item-of .ensures ∙ ap itemOf (returns→cell c .cell .ensures))
+    (returns→told c .enum-told .given .1)))
+    (λ c. returns-2→one-in c .one-in .kept .1 .0)
+    (λ c.
+    runs-as (ran-runs refl (returns-2→entry c .pre .1 .0) (returns-2→one-in c .one-in .ensures (returns-2→entry c .args .dropped .now)))
+    (λ n d. is-error n (T (returns-2→entry c)) (innerAt (T (returns-2→entry c)) n d)
+    (posOf (returns-2→entry c .args .p) (M (returns-2→entry c))) (returns-2→item-of c .item-of .result)
+    (returns-2→entry c .pre .1 .1) (returns-2→item-of c .item-of .ensures ∙ ap itemOf (returns-2→cell c .cell .ensures))
+    (returns-2→told2 c .enum-told2 .given .1)))
+    (λ c. returns-3→text c .text .kept .1 .0)
+    (λ c.
+    runs-as (ran-runs refl (returns-3→entry c .pre .1 .0) (returns-3→text c .text .ensures (returns-3→entry c .args .dropped .now)))
+    (λ n d. is-text n (T (returns-3→entry c)) (innerAt (T (returns-3→entry c)) n d)
+    (posOf (returns-3→entry c .args .p) (M (returns-3→entry c))) (returns-3→item-of c .item-of .result)
+    (returns-3→entry c .pre .1 .1) (returns-3→item-of c .item-of .ensures ∙ ap itemOf (returns-3→cell c .cell .ensures))
+    (text-item (returns-3→item-of c .item-of .result) (returns-3→match-keys3 c .match .keys3))))
+    (λ c. again→item-group c .item-group .kept .1 .1 .1 .1 .0)
+    (λ c. again→item-group c .item-group .kept .1 .1 .1 .1 .1 .0)
+    (λ c.
+    rw (c .again .ensures) (runs-as (again→item-group c .item-group .ensures)
+    (λ n d. is-group n (T (again→entry c)) (innerAt (T (again→entry c)) n d) (posOf (again→entry c .args .p) (M (again→entry c)))
+    (again→item-of c .item-of .result) (again→entry c .pre .1 .1)
+    (again→item-of c .item-of .ensures ∙ ap itemOf (again→cell c .cell .ensures)) (again→item c .item .given .0 .0)
+    (again→item c .item .given .1))))
+    (λ c. returns-5→attach-component c .attach-component .kept .1 .1 .1 .1 .0)
+    (λ c. returns-5→attach-component c .attach-component .kept .1 .1 .1 .1 .1 .0)
+    (λ c.
+    runs-as (returns-5→attach-component c .attach-component .ensures)
+    (λ n d. is-attachment n (T (returns-5→entry c)) (innerAt (T (returns-5→entry c)) n d)
+    (posOf (returns-5→entry c .args .p) (M (returns-5→entry c))) (returns-5→item-of c .item-of .result)
+    (returns-5→entry c .pre .1 .1) (returns-5→item-of c .item-of .ensures ∙ ap itemOf (returns-5→cell c .cell .ensures))
+    (returns-5→item2 c .item2 .given .0 .0) (returns-5→item2 c .item2 .given .1)))
+    (λ c. returns-6→command c .command .kept .1 .1 .1 .1 .0)
+    (λ c. returns-6→command c .command .kept .1 .1 .1 .1 .1 .0)
+    (λ c.
+    runs-as (returns-6→command c .command .ensures)
+    (λ n d. is-command n (T (returns-6→entry c)) (innerAt (T (returns-6→entry c)) n d)
+    (posOf (returns-6→entry c .args .p) (M (returns-6→entry c))) (returns-6→item-of c .item-of .result)
+    (returns-6→entry c .pre .1 .1) (returns-6→item-of c .item-of .ensures ∙ ap itemOf (returns-6→cell c .cell .ensures))
+    (returns-6→told3 c .enum-told3 .given .1)))
+    (λ c. returns-7→environment c .environment .kept .1 .1 .1 .1 .0)
+    (λ c. returns-7→environment c .environment .kept .1 .1 .1 .1 .1 .0)
+    (λ c.
+    runs-as (returns-7→environment c .environment .ensures)
+    (λ n d. is-environment n (T (returns-7→entry c)) (innerAt (T (returns-7→entry c)) n d)
+    (posOf (returns-7→entry c .args .p) (M (returns-7→entry c))) (returns-7→item-of c .item-of .result)
+    (returns-7→entry c .pre .1 .1) (returns-7→item-of c .item-of .ensures ∙ ap itemOf (returns-7→cell c .cell .ensures))
+    (returns-7→told4 c .enum-told4 .given .1)))
+    (λ c. returns-8→item-lr c .item-lr .kept .1 .1 .1 .1 .0)
+    (λ c. returns-8→item-lr c .item-lr .kept .1 .1 .1 .1 .1 .0)
+    (λ c.
+    runs-as (returns-8→item-lr c .item-lr .ensures)
+    (λ n d. is-left-right n (T (returns-8→entry c)) (innerAt (T (returns-8→entry c)) n d)
+    (posOf (returns-8→entry c .args .p) (M (returns-8→entry c))) (returns-8→item-of c .item-of .result)
+    (returns-8→entry c .pre .1 .1) (returns-8→item-of c .item-of .ensures ∙ ap itemOf (returns-8→cell c .cell .ensures))
+    (returns-8→told5 c .enum-told5 .given .1)))
+    (λ c. returns-9→skipped-body c .skipped-body .kept .1 .0)
+    (λ c. returns-9→skipped-body c .skipped-body .kept .1 .1 .0)
+    (λ c.
+    runs-as (ran-runs refl (returns-9→entry c .pre .1 .0) (returns-9→skipped-body c .skipped-body .ensures))
+    (λ n d. is-skipped n (T (returns-9→entry c)) (innerAt (T (returns-9→entry c)) n d)
+    (posOf (returns-9→entry c .args .p) (M (returns-9→entry c))) (returns-9→item-of c .item-of .result)
+    (returns-9→entry c .pre .1 .1) (returns-9→item-of c .item-of .ensures ∙ ap itemOf (returns-9→cell c .cell .ensures))
+    (returns-9→item3 c .item3 .given .0 .0) (returns-9→item3 c .item3 .given .1)))

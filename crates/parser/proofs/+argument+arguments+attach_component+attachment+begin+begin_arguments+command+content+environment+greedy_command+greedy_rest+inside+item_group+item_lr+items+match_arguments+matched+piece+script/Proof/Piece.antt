@@ -1,4 +1,5 @@
 -- The needs of `piece`: each arm hands on to one routine, whose rule is the arm's.
+use borrow.Author.Needs.{needs}
 use Prim.Native.Nat.{ℕ}
 use mathlib.Core.Path.{_≡_, refl}
 use native.Mathlib.Omega.{arith}
@@ -22,20 +23,12 @@ use Rattle.items.specs.declared.choice.Piece.the-variants.{Character, Brace, It
 use Rattle.items.specs.declared.choice.Piece.the-variants.{Within as Within-scope}
 use Rattle.parser.proofs.Cycle.{ran-runs, above}
 use Rattle.parser.proofs.Entry.{word-for}
-use Rattle.parser.proofs.inside.Reads as inside
-use Rattle.routines.proofs.eat.Reads as eat-reads
-use Rattle.parser.proofs.item_group.Reads as item-group
-use Rattle.parser.proofs.clauses.word_character.Reads as word-character-reads
-use Rattle.parser.proofs.piece.Reads as piece
-use Rattle.parser.proofs.+argument+arguments+attach_component+attachment+begin+begin_arguments+command+content+environment+greedy_command+greedy_rest+inside+item_group+item_lr+items+match_arguments+matched+piece+script.Lts-piece as piece-lts
-use Rattle.parser.proofs.+argument+arguments+attach_component+attachment+begin+begin_arguments+command+content+environment+greedy_command+greedy_rest+inside+item_group+item_lr+items+match_arguments+matched+piece+script.Proof.Measures.{inside-below, item-group-below, piece-at}
-
--- what each callee asks and gives, at the measure t
-abbrev pub piece-claims : ℕ → piece-lts.Claims
-piece-claims t = (word-character-reads.Asked, word-character-reads.Learnt, item-group-below t, item-group.Post, eat-reads.Asked, eat-reads.Learnt, inside-below t, inside.Post)
-
-abbrev Start : ℕ → Type 0
-Start t = piece-lts.Start (piece-claims t) (piece-at t) piece.Post
+use Rattle.parser.proofs.piece.Reads as own
+use Rattle.parser.proofs.+argument+arguments+attach_component+attachment+begin+begin_arguments+command+content+environment+greedy_command+greedy_rest+inside+item_group+item_lr+items+match_arguments+matched+piece+script as cycle
+use cycle.Lts-piece as lts
+use cycle.Proof.Measures as measures
+mod At
+use At.*
 
 abbrev T : {t : ℕ} → Start t → Tables
 T b = tables (b .args .text .now) (b .args .tokens .now) (b .args .shapes .now) (b .args .states .now)
@@ -45,11 +38,13 @@ M b = buffers (b .args .tree .now) (b .args .dropped .now)
 
 -- what the rule comes to, by the piece
 module _ (n : ℕ) (t : Tables) (inner : Bool → position.Rule (flat n)) (p : position.At (flat n)) where
-  is-character : (what : Piece) → what ≡ Character → spec.piece (flat n) (sourceOf t) inner (pieceFor what) p ≡ routine.singleChar (flat n) (sourceOf t) p
+  is-character : (what : Piece) → what ≡ Character → spec.piece (flat n) (sourceOf t) inner (pieceFor what) p ≡ routine.singleChar (flat n)
+      (sourceOf t) p
   unfolding spec.piece
   is-character what e = rw e
 
-  is-group : (what : Piece) (scope : ParseScope) → what ≡ Within-scope scope → spec.piece (flat n) (sourceOf t) inner (pieceFor what) p ≡ spec.itemGroup (flat n) (sourceOf t) inner (scopeOf scope) p
+  is-group : (what : Piece) (scope : ParseScope) → what ≡ Within-scope scope → spec.piece (flat n) (sourceOf t) inner (pieceFor what) p ≡
+      spec.itemGroup (flat n) (sourceOf t) inner (scopeOf scope) p
   unfolding spec.piece
   is-group what scope e = rw e
 
@@ -61,47 +56,61 @@ module _ (n : ℕ) (t : Tables) (inner : Bool → position.Rule (flat n)) (p : p
   unfolding spec.piece
   is-item what e = rw e
 
-pub piece-word-character-requires : (t : ℕ) → piece-lts.Need-word-character-requires (piece-claims t) (piece-at t) piece.Post
-piece-word-character-requires t c κs = (c .before .before .before .before .before .before .before .before .before .pre .1 .1, word-for (c .before .before .before .before .before .before .before .before .before .args .what) (T (c .before .before .before .before .before .before .before .before .before)) (c .before .before .before .before .before .before .before .before .before .args .p) (c .before .enum-told .given .1) (c .before .before .before .before .before .before .before .before .before .pre .1 .2), somehow (refl, refl) (c .before .before .before .before .before .before .before .before .before .pre .1 .0))
-
-pub piece-item-group-requires : (t : ℕ) → piece-lts.Need-item-group-requires (piece-claims t) (piece-at t) piece.Post
-piece-item-group-requires t c κs = let measure = c .before .before .before .before .before .before .before .before .before .before .before .pre .0 in
-    (omega arith, (c .before .before .before .before .before .before .before .before .before .before .before .pre .1 .0, c .before .before .before .before .before .before .before .before .before .before .before .pre .1 .1))
-
-pub piece-eat-requires : (t : ℕ) → piece-lts.Need-eat-requires (piece-claims t) (piece-at t) piece.Post
-piece-eat-requires t c κs = (c .before .before .before .before .before .before .before .before .before .pre .1 .1, somehow refl (c .before .before .before .before .before .before .before .before .before .pre .1 .0))
-
-pub piece-inside-requires : (t : ℕ) → piece-lts.Need-inside-requires (piece-claims t) (piece-at t) piece.Post
-piece-inside-requires t c κs = let measure = c .before .before .before .before .before .before .before .before .before .before .pre .0 in
-    (omega arith, (c .before .before .before .before .before .before .before .before .before .before .pre .1 .0, c .before .before .before .before .before .before .before .before .before .before .pre .1 .1))
-
-pub piece-same-length : (t : ℕ) → piece-lts.Need-same-length (piece-claims t) (piece-at t) piece.Post
-piece-same-length t c = c .before .before .word-character .kept .1 .1 .0
-
-pub piece-returns : (t : ℕ) → piece-lts.Need-returns (piece-claims t) (piece-at t) piece.Post
-piece-returns t c = runs-as (ran-runs (refl, refl) (c .before .before .before .before .before .before .before .before .before .before .before .before .pre .1 .0) (c .before .before .word-character .ensures (c .before .before .before .before .before .before .before .before .before .before .before .before .args .dropped .now))) (λ n d. is-character n (T (c .before .before .before .before .before .before .before .before .before .before .before .before)) (spec.content (flat n) (sourceOf (T (c .before .before .before .before .before .before .before .before .before .before .before .before))) (innerAt (T (c .before .before .before .before .before .before .before .before .before .before .before .before)) n d)) (posOf (c .before .before .before .before .before .before .before .before .before .before .before .before .args .p) (M (c .before .before .before .before .before .before .before .before .before .before .before .before))) (c .before .before .before .before .before .before .before .before .before .before .before .before .args .what) (c .before .before .before .before .enum-told .given .1))
-
-pub piece-same-length-2 : (t : ℕ) → piece-lts.Need-same-length-2 (piece-claims t) (piece-at t) piece.Post
-piece-same-length-2 t c = c .before .before .before .before .item-group .kept .1 .1 .1 .1 .0
-
-pub piece-same-length-3 : (t : ℕ) → piece-lts.Need-same-length-3 (piece-claims t) (piece-at t) piece.Post
-piece-same-length-3 t c = c .before .before .before .before .item-group .kept .1 .1 .1 .1 .1 .0
-
-pub piece-returns-2 : (t : ℕ) → piece-lts.Need-returns-2 (piece-claims t) (piece-at t) piece.Post
+piece-returns-2 : (t : ℕ) → lts.Need-returns-2 (claims t) (measures.piece .at t) own.Post
 unfolding spec.contentAt
-piece-returns-2 t c = runs-as (above (c .before .before .before .before .item-group .ensures)) (λ n d. is-group n (T (c .before .before .before .before .before .before .before .before .before .before .before .before .before .before .before .before)) (spec.content (flat n) (sourceOf (T (c .before .before .before .before .before .before .before .before .before .before .before .before .before .before .before .before))) (innerAt (T (c .before .before .before .before .before .before .before .before .before .before .before .before .before .before .before .before)) n d)) (posOf (c .before .before .before .before .before .before .before .before .before .before .before .before .before .before .before .before .args .p) (M (c .before .before .before .before .before .before .before .before .before .before .before .before .before .before .before .before))) (c .before .before .before .before .before .before .before .before .before .before .before .before .before .before .before .before .args .what) (c .before .before .before .before .before .before .before .before .what .given .0 .0) (c .before .before .before .before .before .before .before .before .what .given .1))
+piece-returns-2 t c = runs-as (above (returns-2→item-group c .item-group .ensures))
+    (λ n d. is-group n (T (returns-2→entry c)) (spec.content (flat n) (sourceOf (T (returns-2→entry c)))
+    (innerAt (T (returns-2→entry c)) n d)) (posOf (returns-2→entry c .args .p) (M (returns-2→entry c))) (returns-2→entry c .args .what)
+    (returns-2→what c .what .given .0 .0) (returns-2→what c .what .given .1))
 
-pub piece-same-length-4 : (t : ℕ) → piece-lts.Need-same-length-4 (piece-claims t) (piece-at t) piece.Post
-piece-same-length-4 t c = c .before .before .eat .kept .1 .0
-
-pub piece-returns-3 : (t : ℕ) → piece-lts.Need-returns-3 (piece-claims t) (piece-at t) piece.Post
-piece-returns-3 t c = runs-as (ran-runs refl (c .before .before .before .before .before .before .before .before .before .before .before .before .pre .1 .0) (c .before .before .eat .ensures (c .before .before .before .before .before .before .before .before .before .before .before .before .args .dropped .now))) (λ n d. is-brace n (T (c .before .before .before .before .before .before .before .before .before .before .before .before)) (spec.content (flat n) (sourceOf (T (c .before .before .before .before .before .before .before .before .before .before .before .before))) (innerAt (T (c .before .before .before .before .before .before .before .before .before .before .before .before)) n d)) (posOf (c .before .before .before .before .before .before .before .before .before .before .before .before .args .p) (M (c .before .before .before .before .before .before .before .before .before .before .before .before))) (c .before .before .before .before .before .before .before .before .before .before .before .before .args .what) (c .before .before .before .before .enum-told2 .given .1))
-
-pub piece-same-length-5 : (t : ℕ) → piece-lts.Need-same-length-5 (piece-claims t) (piece-at t) piece.Post
-piece-same-length-5 t c = c .before .before .before .before .inside .kept .1 .1 .1 .1 .0
-
-pub piece-same-length-6 : (t : ℕ) → piece-lts.Need-same-length-6 (piece-claims t) (piece-at t) piece.Post
-piece-same-length-6 t c = c .before .before .before .before .inside .kept .1 .1 .1 .1 .1 .0
-
-pub piece-returns-4 : (t : ℕ) → piece-lts.Need-returns-4 (piece-claims t) (piece-at t) piece.Post
-piece-returns-4 t c = runs-as (c .before .before .before .before .inside .ensures) (λ n d. is-item n (T (c .before .before .before .before .before .before .before .before .before .before .before .before .before .before .before)) (spec.content (flat n) (sourceOf (T (c .before .before .before .before .before .before .before .before .before .before .before .before .before .before .before))) (innerAt (T (c .before .before .before .before .before .before .before .before .before .before .before .before .before .before .before)) n d)) (posOf (c .before .before .before .before .before .before .before .before .before .before .before .before .before .before .before .args .p) (M (c .before .before .before .before .before .before .before .before .before .before .before .before .before .before .before))) (c .before .before .before .before .before .before .before .before .before .before .before .before .before .before .before .args .what) (c .before .before .before .before .before .before .before .enum-told3 .given .1))
+pub meets : {W : Type 1} (t : ℕ) → lts.Closed (claims t) (measures.piece .at t) own.Post W
+meets t =
+    lts.spec (claims t) (measures.piece .at t) own.Post
+    (λ c. search needs)
+    -- word-character
+    (λ c κs. (
+      word-character-arg→entry c .pre .1 .1,
+      word-for (word-character-arg→entry c .args .what) (T (word-character-arg→entry c))
+          (word-character-arg→entry c .args .p) (c .before .enum-told .given .1) (word-character-arg→entry c .pre .1 .2),
+      somehow (refl, refl)
+          (word-character-arg→entry c .pre .1 .0),
+    ))
+    (λ c. search needs)
+    -- item-group
+    (λ c κs.
+    let measure = item-group-arg2→entry c .pre .0 in
+    (omega arith, (item-group-arg2→entry c .pre .1 .0, item-group-arg2→entry c .pre .1 .1)))
+    (λ c. search needs)
+    -- eat
+    (λ c κs. (eat-arg→entry c .pre .1 .1, somehow refl (eat-arg→entry c .pre .1 .0)))
+    (λ c. search needs)
+    -- inside
+    (λ c κs.
+    let measure = inside-arg2→entry c .pre .0 in
+    (omega arith, (inside-arg2→entry c .pre .1 .0, inside-arg2→entry c .pre .1 .1)))
+    (λ c. returns→word-character c .word-character .kept .1 .1 .0)
+    (λ c.
+    runs-as (ran-runs (refl, refl) (returns→entry c .pre .1 .0)
+    (returns→word-character c .word-character .ensures (returns→entry c .args .dropped .now)))
+    (λ n d. is-character n (T (returns→entry c))
+    (spec.content (flat n) (sourceOf (T (returns→entry c))) (innerAt (T (returns→entry c)) n d))
+    (posOf (returns→entry c .args .p) (M (returns→entry c))) (returns→entry c .args .what)
+    (returns→told c .enum-told .given .1)))
+    (λ c. returns-2→item-group c .item-group .kept .1 .1 .1 .1 .0)
+    (λ c. returns-2→item-group c .item-group .kept .1 .1 .1 .1 .1 .0)
+    (piece-returns-2 t)
+    (λ c. returns-3→eat c .eat .kept .1 .0)
+    (λ c.
+    runs-as (ran-runs refl (returns-3→entry c .pre .1 .0) (returns-3→eat c .eat .ensures (returns-3→entry c .args .dropped .now)))
+    (λ n d. is-brace n (T (returns-3→entry c))
+    (spec.content (flat n) (sourceOf (T (returns-3→entry c))) (innerAt (T (returns-3→entry c)) n d))
+    (posOf (returns-3→entry c .args .p) (M (returns-3→entry c))) (returns-3→entry c .args .what)
+    (returns-3→told2 c .enum-told2 .given .1)))
+    (λ c. returns-4→inside c .inside .kept .1 .1 .1 .1 .0)
+    (λ c. returns-4→inside c .inside .kept .1 .1 .1 .1 .1 .0)
+    (λ c.
+    runs-as (returns-4→inside c .inside .ensures)
+    (λ n d. is-item n (T (returns-4→entry c))
+    (spec.content (flat n) (sourceOf (T (returns-4→entry c))) (innerAt (T (returns-4→entry c)) n d))
+    (posOf (returns-4→entry c .args .p) (M (returns-4→entry c))) (returns-4→entry c .args .what)
+    (returns-4→told3 c .enum-told3 .given .1)))
