@@ -20,8 +20,8 @@ use Rattle.rules.specs.Matcher.{Matcher, startMatch, isGreedy, formLeft1
 use Rattle.rules.specs.Outcome.{Out, went, bind, greedyEnvironment, markBeforeNode, tooManyOpen}
 use Rattle.rules.specs.Placed.{Placed, Places, leaf, node, none, more, places, leavesIn, leavesAll, Placing, firstOf, leafed, opened, openedAt, closed, noted, placing, nothing}
 use Rattle.rules.specs.Position.{Shape, Source, At, place, asked, steps, withMarks, holdingNone, start, finish, wrap}
-use Rattle.rules.specs.Reading.{orElse, items, itemList, itemGroup, piece, argument, chosen, choiceFor, arguments, matchArguments, greedyArgument, commandNode, commandOf, environmentArguments, beginClause, endClause, environmentItem, rightClause, itemLr, script, attachmentNode, attachTo, attachComponent, readItem, contentFor, content, contentAt, parse}
-use Rattle.rules.specs.Routines.{eatAs, eat, eatIf, eatWhile, turns, trivia, singleChar, oneIn, holdTrivia, dropFrom, ignoreHoldingTrivia, leavesFrom, extractHoldingTrivia, text, delimiterOf, delimiter, clauseLr, dropNext, eatBodyOfIfs, skippedBody, startCommandAt}
+use Rattle.rules.specs.Reading.{items, itemList, itemGroup, piece, argument, chosen, choiceFor, arguments, matchArguments, greedyItems, greedyArgument, greedyCommand, matchedCommand, commandOf, environmentArguments, beginClause, environmentItem, itemLr, script, attachmentAt, attachTo, attachComponent, readItem, contentFor, content, contentAt, parse}
+use Rattle.rules.specs.Routines.{eatAs, eat, eatIf, eatWhile, turns, trivia, singleChar, oneIn, holdTrivia, dropFrom, ignoreHoldingTrivia, leavesFrom, extractHoldingTrivia, text, delimiterOf, delimiter, clauseLr, dropNext, eatBodyOfIfs, skippedBody, startAround, orElse, left1Command, argumentNode, endClause, rightClause}
 use Rattle.rules.specs.Rowan.{markPastLast}
 use Rattle.rules.specs.Scope
 use Rattle.rules.specs.Scope.{Scope, among, stops}
@@ -333,11 +333,11 @@ module _ (source : Source) where
         holding = i .1 ∙ o .1;
       })))
 
-  startCommandAt-begun : (rows : ℕ → Places → List ℕ) (o : Option ℕ) (g : Ground) (p : At placing) → Wraps rows (place placing p) → Here g p
-      → Goes (Begun rows g SyntaxKind.ItemCmd (place placing p)) (startCommandAt placing source o p)
-  unfolding startCommandAt
-  startCommandAt-begun rows none g p wraps h = start-begun rows SyntaxKind.ItemCmd g p wraps h
-  startCommandAt-begun rows (some mark) g p wraps h = wrap-begun rows SyntaxKind.ItemCmd mark g p wraps h
+  startAround-begun : (rows : ℕ → Places → List ℕ) (kind : ℕ) (o : Option ℕ) (g : Ground) (p : At placing) → Wraps rows (place placing p) → Here g p
+      → Goes (Begun rows g kind (place placing p)) (startAround placing source kind o p)
+  unfolding startAround
+  startAround-begun rows kind none g p wraps h = start-begun rows kind g p wraps h
+  startAround-begun rows kind (some mark) g p wraps h = wrap-begun rows kind mark g p wraps h
 
   -- a node that passes nothing, wherever it was begun
   as-under : {g : Ground} {kind from : ℕ} (p : At placing) → Begun (droppedAll source) g kind from p → Under g kind from p
@@ -491,7 +491,7 @@ module _ (source : Source) where
 
     module _ {g : Ground} {kind from : ℕ} where
       argument-in : (what : Piece) → Takes (Holding g kind from) (Holding g kind from) (argument placing source inner what)
-      unfolding argument ignoreHoldingTrivia steps
+      unfolding argument argumentNode ignoreHoldingTrivia steps
       argument-in what p h =
           let at = place placing p in
           let held = p .held in
@@ -543,54 +543,65 @@ module _ (source : Source) where
           bind-goes (arguments-in _ m _ (record { around = k .around; outside = k .outside; level = k .level; holding = record { behind = k .holding .behind; blank = k .holding .blank } }))
           (λ q r. goes (record { around = r .around; outside = r .outside; level = r .level; holding = record { behind = r .holding .behind; blank = r .holding .blank } }))
 
+    greedyItems-in : Keep (greedyItems placing source inner)
+    unfolding greedyItems steps
+    greedyItems-in g p h = bind-goes (items-in (greedyStops (p .list .scope)) _ g _ h) (λ q h. goes h)
+
     greedyArgument-in : Keep (greedyArgument placing source inner)
     unfolding greedyArgument
     greedyArgument-in g p h =
         let from = place placing p in
         let kind = SyntaxKind.ClauseArgument in
-        from-goes (start-under kind g p h
-        first under (λ g p h. goes h) g kind from
-        then under (λ g p h. items-in (greedyStops (p .list .scope)) _ g p h) g kind from
-        then under (λ g p h. goes h) g kind from
-        then finish-in (other kind from refl)
-        then done)
+        from-goes (start-under kind g p h first under greedyItems-in g kind from then finish-in (other kind from refl) then done)
 
     -- ---- commands
 
-    -- a node is open whose command passes: its name, its arguments, its end
-    passing-node : {g : Ground} {from : ℕ} {rest : Rule} {also : List Placed → At placing → Type 0} → passes source SyntaxKind.ItemCmd from ≡ true
-        → Takes (Named g SyntaxKind.ItemCmd from) (Within (droppedPassing source from) also g SyntaxKind.ItemCmd from) rest
-        → Takes (Begun (droppedPassing source from) g SyntaxKind.ItemCmd from) (Here g) (commandNode placing source inner rest tt)
-    unfolding commandNode isBody
-    passing-node passing k = steps-go (name-in then k then finish-passing refl passing then done)
+    greedyCommand-in : (o : Option ℕ) (g : Ground) (p : At placing) → Plain SyntaxKind.ItemCmd (place placing p) → Here g p
+        → Goes (Here g) (greedyCommand placing source inner o p)
+    unfolding greedyCommand
+    greedyCommand-in o g p ordinary h =
+        let from = place placing p in
+        let kind = SyntaxKind.ItemCmd in
+        from-goes (weaker-goes as-under (startAround-begun (droppedAll source) kind o g p (wraps-all from) h)
+        first under eat-in g kind from
+        then under greedyArgument-in g kind from
+        then finish-in ordinary
+        then done)
 
-    -- and one whose command is greedy
-    greedy-node : {g : Ground} {from : ℕ} → Plain SyntaxKind.ItemCmd from → Takes (Begun (droppedAll source) g SyntaxKind.ItemCmd from) (Here g) (commandNode placing source inner (greedyArgument placing source inner) tt)
-    unfolding commandNode
-    greedy-node {g} {from} ordinary p h =
-        steps-go (under eat-in g SyntaxKind.ItemCmd from then under greedyArgument-in g SyntaxKind.ItemCmd from then finish-in ordinary then done) p (as-under p h)
+    matchedCommand-in : (m : Matcher) (g : Ground) (p : At placing) → passes source SyntaxKind.ItemCmd (place placing p) ≡ true → Here g p
+        → Goes (Here g) (matchedCommand placing source inner m p)
+    unfolding matchedCommand isBody
+    matchedCommand-in m g p passing h =
+        let from = place placing p in
+        from-goes (start-begun (droppedPassing source from) SyntaxKind.ItemCmd g p (wraps-passing from) h
+        first name-in
+        then matchArguments-in m
+        then finish-passing refl passing
+        then extract-in g
+        then done)
 
-    commandOf-in : (s : Shape) (g : Ground) (p : At placing) → greedyName source (place placing p) ≡ among (s .form) greedyForms → Here g p → Goes (Here g) (commandOf placing source inner s p)
-    unfolding commandOf steps
+    left1Command-in : (g : Ground) (p : At placing) → passes source SyntaxKind.ItemCmd (place placing p) ≡ true → Here g p
+        → Goes (Here g) (left1Command placing source p)
+    unfolding left1Command isBody
+    left1Command-in g p passing h =
+        let from = place placing p in
+        let mark = orElse placing source (p .list .last) (p .list .start) in
+        from-goes (startAround-begun (droppedPassing source from) SyntaxKind.ItemCmd mark g p (wraps-passing from) h
+        first name-in
+        then finish-passing refl passing
+        then done)
+
+    commandOf-in : (s : Shape) (g : Ground) (p : At placing) → greedyName source (place placing p) ≡ among (s .form) greedyForms → Here g p
+        → Goes (Here g) (commandOf placing source inner s p)
+    unfolding commandOf
     commandOf-in s g p is h =
         let from = place placing p in
+        let takes-all = greedy-is (s .form) (s .value) in
         cond-goes (nameOnly s) (λ e. oneCmd-in g p (cmd-passes from s is (name-not-greedy s e)) h)
-        (λ _. cond-goes (eqb (s .form) formLeft1)
-        (λ e. bind-goes (startCommandAt-begun (droppedPassing source from) (orElse placing source (p .list .last) (p .list .start)) g p (wraps-passing from) h)
-        (steps-go (passing-node (cmd-passes from s is (left1-not-greedy (s .form) e)) (λ q k. goes k)
-        then done)))
-        (λ _. cond-goes (eqb (s .form) formInfixGreedy)
-        (λ e. bind-goes (startCommandAt-begun (droppedAll source) (p .list .start) g (withMarks placing none (p .list .last) p) (wraps-all from) h)
-        (steps-go (greedy-node (cmd-plain from s is (infix-greedy (s .form) e))
-        then done)))
-        (λ _. cond-goes (isGreedy (startMatch (s .form) (s .value)))
-        (λ e. bind-goes (start-begun (droppedAll source) SyntaxKind.ItemCmd g p (wraps-all from) h)
-        (steps-go (greedy-node (cmd-plain from s is (sym (greedy-is (s .form) (s .value)) ∙ e))
-        then done)))
-        (λ e. bind-goes (start-begun (droppedPassing source from) SyntaxKind.ItemCmd g p (wraps-passing from) h)
-        (steps-go (passing-node (cmd-passes from s is (sym (greedy-is (s .form) (s .value)) ∙ e)) (matchArguments-in (startMatch (s .form) (s .value)))
-        then extract-in g
-        then done))))))
+        (λ _. cond-goes (eqb (s .form) formLeft1) (λ e. left1Command-in g p (cmd-passes from s is (left1-not-greedy (s .form) e)) h)
+        (λ _. cond-goes (eqb (s .form) formInfixGreedy) (λ e. greedyCommand-in (p .list .start) g _ (cmd-plain from s is (infix-greedy (s .form) e)) h)
+        (λ _. cond-goes (isGreedy (startMatch (s .form) (s .value))) (λ e. greedyCommand-in none g p (cmd-plain from s is (sym takes-all ∙ e)) h)
+        (λ e. matchedCommand-in _ g p (cmd-passes from s is (sym takes-all ∙ e)) h))))
 
     -- ---- environments, left-right bodies, attachments
 
@@ -611,7 +622,7 @@ module _ (source : Source) where
         then extract-in g
         then done)
 
-    endClause-in : Keep (endClause placing source inner)
+    endClause-in : Keep (endClause placing source)
     unfolding endClause
     endClause-in g p h = cond-goes (sees (eqb Token.EndEnvironment) p) (λ _. oneIn-in SyntaxKind.ItemEnd refl g p h) (λ _. goes h)
 
@@ -627,7 +638,7 @@ module _ (source : Source) where
         then finish-in (other kind from refl)
         then done)
 
-    rightClause-in : Keep (rightClause placing source inner)
+    rightClause-in : Keep (rightClause placing source)
     unfolding rightClause
     rightClause-in g p h = cond-goes (sees (eqb Token.Right) p) (λ _. clauseLr-in g p h) (λ _. goes h)
 
@@ -648,17 +659,21 @@ module _ (source : Source) where
     script-in true g p h = steps-go (trivia-in g then keeps true g then done) p h
     script-in false g p h = goes h
 
-    attachmentNode-in : (hasScript : Bool) {g : Ground} {from : ℕ} → Takes (Begun (droppedAll source) g SyntaxKind.ItemAttachComponent from) (Here g) (attachmentNode placing source inner hasScript tt)
-    unfolding attachmentNode
-    attachmentNode-in hasScript {g} {from} p h =
+    attachmentAt-in : (hasScript : Bool) (o : Option ℕ) → Keep (attachmentAt placing source inner hasScript o)
+    unfolding attachmentAt
+    attachmentAt-in hasScript o g p h =
+        let from = place placing p in
         let kind = SyntaxKind.ItemAttachComponent in
-        steps-go (under eat-in g kind from then under (script-in hasScript) g kind from then finish-in (other kind from refl) then done) p (as-under p h)
+        from-goes (weaker-goes as-under (startAround-begun (droppedAll source) kind o g p (wraps-all from) h)
+        first under eat-in g kind from
+        then under (script-in hasScript) g kind from
+        then finish-in (other kind from refl)
+        then done)
 
     attachTo-in : (hasScript : Bool) (o : Option ℕ) → Keep (attachTo placing source inner hasScript o)
     unfolding attachTo
-    attachTo-in hasScript (some mark) g p h =
-        from-goes (wrap-begun (droppedAll source) SyntaxKind.ItemAttachComponent mark g p (wraps-all (place placing p)) h first attachmentNode-in hasScript then done)
-    attachTo-in true none g p h = from-goes (start-begun (droppedAll source) SyntaxKind.ItemAttachComponent g p (wraps-all (place placing p)) h first attachmentNode-in true then done)
+    attachTo-in hasScript (some mark) g p h = attachmentAt-in hasScript (some mark) g p h
+    attachTo-in true none g p h = attachmentAt-in true none g p h
     attachTo-in false none g p h = eat-in g p h
 
     -- ---- any item

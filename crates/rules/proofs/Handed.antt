@@ -17,7 +17,7 @@ use Rattle.rules.specs.Items.{isCommandName, isIf}
 use Rattle.rules.specs.Kinds.{isTrivia, isTextComponent, leafKind}
 use Rattle.rules.specs.Outcome.{Out, went, refused, bind}
 use Rattle.rules.specs.Position.{Source, At, steps, asked, place, withBuilt, building, leaf, start, startAt, finish, wrap}
-use Rattle.rules.specs.Routines.{next, turns, eatAs, eat, eatIf, eatWhile, trivia, singleChar, oneIn, holdTrivia, dropFrom, leavesFrom, extractHoldingTrivia, text, delimiterOf, delimiter, clauseLr, dropNext, eatBodyOfIfs, skippedBody, startCommandAt}
+use Rattle.rules.specs.Routines.{next, turns, eatAs, eat, eatIf, eatWhile, trivia, singleChar, oneIn, holdTrivia, dropFrom, leavesFrom, extractHoldingTrivia, text, delimiterOf, delimiter, clauseLr, dropNext, eatBodyOfIfs, skippedBody, startAround, left1Command, orElse, endClause, rightClause}
 use Rattle.rules.specs.SyntaxKind
 use Rattle.rules.specs.Tables.{tokenCount, kindAt, lengthAt}
 use Rattle.rules.specs.Tables
@@ -144,10 +144,10 @@ module _ {B : Builder} {source : Source} (K : Handed B source) (sound : Sound so
       opened-then _ (startAt! kind m p on) (λ b on. opened-then _ (startAt! SyntaxKind.ClauseArgument m (withBuilt B p b) on)
       (λ b on′. again {b = b} (finish! SyntaxKind.ClauseArgument _ (withBuilt B p b) on′)))
 
-  pub startCommandAt! : (o : Option (B .Mark)) (p : At B) {n : ℕ} → Free n p → IfWent (Opened p n) (startCommandAt B source o p)
-  unfolding startCommandAt
-  startCommandAt! none p on = start! SyntaxKind.ItemCmd p on
-  startCommandAt! (some m) p on = wrap! SyntaxKind.ItemCmd m p on
+  pub startAround! : (kind : ℕ) (o : Option (B .Mark)) (p : At B) {n : ℕ} → Free n p → IfWent (Opened p n) (startAround B source kind o p)
+  unfolding startAround
+  startAround! kind none p on = start! kind p on
+  startAround! kind (some m) p on = wrap! kind m p on
 
   -- ---- tokens
 
@@ -347,3 +347,21 @@ module _ {B : Builder} {source : Source} (K : Handed B source) (sound : Sound so
   skippedBody-if kind p on there other =
       opened-then _ (start! kind p on) (λ b on. then-if (dropNext-if reasonOpener (withBuilt B p b) on there other)
       (λ q on. then-if (eatBodyOfIfs-if (turns B source q) 0 q on) (λ q on. closes kind _ q on)))
+
+  pub left1Command-if : (p : At B) {n : ℕ} → Free (suc n) p → There source (p .lexer) → IfWent (Free n) (left1Command B source p)
+  unfolding left1Command steps
+  left1Command-if p on there =
+      opened-then _ (startAround! SyntaxKind.ItemCmd (orElse B source (p .list .last) (p .list .start)) p on)
+      (λ b on. then-if (eat-if (withBuilt B p b) on there) (λ q on. closes SyntaxKind.ItemCmd _ q on))
+
+  pub endClause-if : (p : At B) {n : ℕ} → Free n p → IfWent (Free n) (endClause B source p)
+  unfolding endClause
+  endClause-if p on =
+      cond-if (next B source (eqb Token.EndEnvironment) p)
+      (λ e. oneIn-if SyntaxKind.ItemEnd p (wider on) (seen source (eqb Token.EndEnvironment) (p .lexer) e .0)) (λ _. goes on)
+
+  pub rightClause-if : (p : At B) {n : ℕ} → Free n p → IfWent (Free n) (rightClause B source p)
+  unfolding rightClause
+  rightClause-if p on =
+      cond-if (next B source (eqb Token.Right) p)
+      (λ e. clauseLr-if p (wider on) (seen source (eqb Token.Right) (p .lexer) e .0)) (λ _. goes on)

@@ -18,14 +18,14 @@ use Rattle.rules.specs.Matcher.{Matcher, Tried, Matched, term, bracket, 
 use Rattle.rules.specs.Matcher
 use Rattle.rules.specs.Outcome.{went, refused, greedyEnvironment, tooManyOpen}
 use Rattle.rules.specs.Position.{Shape, Source, At, Rule, steps, asked, place, withBuilt, start, finish}
-use Rattle.rules.specs.Reading.{shapeHere, lastAfter, orElse, items, itemList, itemGroup, piece, argument, chosen, choiceFor, arguments, matchArguments, greedyArgument, commandNode, commandOf, environmentArguments, beginClause, endClause, environmentItem, rightClause, itemLr, script, attachmentNode, attachTo, attachComponent, readItem, contentFor, content, contentAt, parse}
-use Rattle.rules.specs.Routines.{next, turns, ignoreHoldingTrivia, holdTrivia}
+use Rattle.rules.specs.Reading.{shapeHere, lastAfter, items, itemList, itemGroup, piece, argument, chosen, choiceFor, arguments, matchArguments, greedyItems, greedyArgument, greedyCommand, matchedCommand, commandOf, environmentArguments, beginClause, environmentItem, itemLr, script, attachmentAt, attachTo, attachComponent, readItem, contentFor, content, contentAt, parse}
+use Rattle.rules.specs.Routines.{next, turns, ignoreHoldingTrivia, holdTrivia, argumentNode}
 use Rattle.rules.specs.Scope
 use Rattle.rules.specs.Scope.{Scope, stops, among}
 use Rattle.rules.specs.SyntaxKind
 use Rattle.rules.specs.Tables.{tokenCount, kindAt}
 use Rattle.rules.specs.Token
-use Rattle.rules.proofs.Handed.{IfWent, goes, stopped, then-if, cond-if, last-if, Handed, seen, On, Free, wider, opened-then, start!, finish-if, closes, wrap!, startCommandAt!, eat-if, eatIf-if, trivia-if, singleChar-if, oneIn-if, Holding, nothing-held, some-held, Held, ignore-on, hold-held, wider-held, extract-if, text-if, clauseLr-if, skippedBody-if}
+use Rattle.rules.proofs.Handed.{IfWent, goes, stopped, then-if, cond-if, last-if, Handed, seen, On, Free, wider, opened-then, start!, finish-if, closes, startAround!, eat-if, eatIf-if, trivia-if, singleChar-if, oneIn-if, Holding, nothing-held, some-held, Held, ignore-on, hold-held, wider-held, extract-if, text-if, clauseLr-if, skippedBody-if, left1Command-if, endClause-if, rightClause-if}
 use Rattle.rules.proofs.Progress.{at-end, end-whole, other-whole}
 use Rattle.rules.proofs.Reached.{Sound, There, AtWord, Standing}
 
@@ -148,8 +148,9 @@ module _ {B : Builder} {source : Source} (K : Handed B source) (sound : Sound so
     piece-if brace p on there a-brace = eat-if K sound p on there
     piece-if item p on there an-item = inner .some false p on there
 
-    pub argument-if : (what : Piece) (p : At B) {n : ℕ} → Held K sound (suc n) p → There source (p .lexer) → Suits source (p .lexer) what → IfWent (Held K sound n) (argument B source i what p)
-    unfolding argument ignoreHoldingTrivia steps
+    pub argument-if : (what : Piece) (p : At B) {n : ℕ} → Held K sound (suc n) p → There source (p .lexer) → Suits source (p .lexer) what
+        → IfWent (Held K sound n) (argument B source i what p)
+    unfolding argument argumentNode ignoreHoldingTrivia steps
     argument-if what p held there suits =
         opened-then K sound _ (start! K sound SyntaxKind.ClauseArgument _ (ignore-on K sound p held)) (λ b on. then-if (piece-if what _ on there suits)
         (λ q on. then-if (finish-if K sound SyntaxKind.ClauseArgument _ q on) (λ q on. goes (nothing-held refl on))))
@@ -175,32 +176,41 @@ module _ {B : Builder} {source : Source} (K : Handed B source) (sound : Sound so
     unfolding matchArguments steps
     matchArguments-if m p on = then-if (arguments-if _ m _ (nothing-held refl on)) (λ q held. goes held)
 
+    greedyItems-if : (p : At B) {n : ℕ} → Free K sound n p → IfWent (Free K sound n) (greedyItems B source i p)
+    unfolding greedyItems steps
+    greedyItems-if p on = then-if (items-if (greedyStops (p .list .scope)) _ _ on) (λ q on. goes on)
+
     greedyArgument-if : (p : At B) {n : ℕ} → Free K sound n p → IfWent (Free K sound n) (greedyArgument B source i p)
     unfolding greedyArgument steps
     greedyArgument-if p on =
-        opened-then K sound _ (start! K sound SyntaxKind.ClauseArgument p on) (λ b on. then-if (items-if (greedyStops (p .list .scope)) _ _ on) (λ q on. closes K sound SyntaxKind.ClauseArgument _ _ on))
+        opened-then K sound _ (start! K sound SyntaxKind.ClauseArgument p on)
+        (λ b on. then-if (greedyItems-if _ on) (λ q on. closes K sound SyntaxKind.ClauseArgument _ q on))
 
     -- ---- commands
 
-    commandNode-if : (rest : Rule B) (f : B .Frame) {P : At B → Type 0} (p : At B) {n : ℕ} → Free K sound (suc n) p → There source (p .lexer)
-        → ((q : At B) → Free K sound n q → IfWent P (rest q))
-        → ((q : At B) → P q → IfWent P (finish B SyntaxKind.ItemCmd f q))
-        → IfWent P (commandNode B source i rest f p)
-    unfolding commandNode steps
-    commandNode-if rest f p on there more end = then-if (eat-if K sound p on there) (λ q on. then-if (more q on) (λ q h. last-if (end q h)))
+    greedyCommand-if : (m : Option (B .Mark)) (p : At B) {n : ℕ} → Free K sound (suc n) p → There source (p .lexer)
+        → IfWent (Free K sound n) (greedyCommand B source i m p)
+    unfolding greedyCommand steps
+    greedyCommand-if m p on there =
+        opened-then K sound _ (startAround! K sound SyntaxKind.ItemCmd m p on) (λ b on. then-if (eat-if K sound (withBuilt B p b) on there)
+        (λ q on. then-if (greedyArgument-if q on) (λ q on. closes K sound SyntaxKind.ItemCmd _ q on)))
+
+    matchedCommand-if : (m : Matcher) (p : At B) {n : ℕ} → Free K sound (suc n) p → There source (p .lexer)
+        → IfWent (Free K sound n) (matchedCommand B source i m p)
+    unfolding matchedCommand steps
+    matchedCommand-if m p on there =
+        opened-then K sound _ (start! K sound SyntaxKind.ItemCmd p on) (λ b on. then-if (eat-if K sound (withBuilt B p b) on there)
+        (λ q on. then-if (matchArguments-if m q on)
+        (λ q held. then-if (finish-held SyntaxKind.ItemCmd _ q held) (λ q held. last-if (extract-if K sound q held)))))
 
     commandOf-if : (s : Shape) (p : At B) {n : ℕ} → Free K sound (suc n) p → There source (p .lexer) → IfWent (Free K sound n) (commandOf B source i s p)
-    unfolding commandOf steps
+    unfolding commandOf
     commandOf-if s p on there =
         cond-if (nameOnly s) (λ _. oneIn-if K sound SyntaxKind.ItemCmd p on there)
-        (λ _. cond-if (eqb (s .form) formLeft1)
-        (λ _. opened-then K sound _ (startCommandAt! K sound (orElse B source (p .list .last) (p .list .start)) p on) (λ b on. last-if (commandNode-if went _ _ on there (λ q on. goes on) (λ q on. finish-if K sound SyntaxKind.ItemCmd _ q on))))
-        (λ _. cond-if (eqb (s .form) formInfixGreedy)
-        (λ _. opened-then K sound _ (startCommandAt! K sound (p .list .start) _ on) (λ b on. last-if (commandNode-if (greedyArgument B source i) _ _ on there (λ q on. greedyArgument-if q on) (λ q on. finish-if K sound SyntaxKind.ItemCmd _ q on))))
-        (λ _. cond-if (isGreedy (startMatch (s .form) (s .value)))
-        (λ _. opened-then K sound _ (start! K sound SyntaxKind.ItemCmd p on) (λ b on. last-if (commandNode-if (greedyArgument B source i) _ _ on there (λ q on. greedyArgument-if q on) (λ q on. finish-if K sound SyntaxKind.ItemCmd _ q on))))
-        (λ _. opened-then K sound _ (start! K sound SyntaxKind.ItemCmd p on)
-        (λ b on. then-if (commandNode-if (matchArguments B source i (startMatch (s .form) (s .value))) _ _ on there (λ q on. matchArguments-if _ q on) (λ q held. finish-held SyntaxKind.ItemCmd _ q held)) (λ q held. last-if (extract-if K sound q held)))))))
+        (λ _. cond-if (eqb (s .form) formLeft1) (λ _. left1Command-if K sound p on there)
+        (λ _. cond-if (eqb (s .form) formInfixGreedy) (λ _. greedyCommand-if (p .list .start) _ on there)
+        (λ _. cond-if (isGreedy (startMatch (s .form) (s .value))) (λ _. greedyCommand-if none p on there)
+        (λ _. matchedCommand-if _ p on there))))
 
     -- ---- environments, left-right bodies, attachments
 
@@ -216,39 +226,35 @@ module _ {B : Builder} {source : Source} (K : Handed B source) (sound : Sound so
         opened-then K sound _ (start! K sound SyntaxKind.ItemBegin p on) (λ b on. then-if (eat-if K sound (withBuilt B p b) on there)
         (λ q on. then-if (environmentArguments-if (shapeHere B source classEnvironment p) q on) (λ q held. then-if (finish-held SyntaxKind.ItemBegin _ q held) (λ q held. last-if (extract-if K sound q held)))))
 
-    endClause-if : (p : At B) {n : ℕ} → Free K sound n p → IfWent (Free K sound n) (endClause B source i p)
-    unfolding endClause
-    endClause-if p on = cond-if (next B source (eqb Token.EndEnvironment) p) (λ e. oneIn-if K sound SyntaxKind.ItemEnd p (wider K sound on) (seen source (eqb Token.EndEnvironment) (p .lexer) e .0)) (λ _. goes on)
-
     environmentItem-if : (p : At B) {n : ℕ} → Free K sound (suc n) p → There source (p .lexer) → IfWent (Free K sound n) (environmentItem B source i p)
     unfolding environmentItem steps
     environmentItem-if p on there =
         opened-then K sound _ (start! K sound SyntaxKind.ItemEnv p on) (λ b on. then-if (beginClause-if (withBuilt B p b) on there)
-        (λ q on. then-if (itemList-if Scope.Environment q on) (λ q on. then-if (endClause-if q on) (λ q on. closes K sound SyntaxKind.ItemEnv _ q on))))
-
-    rightClause-if : (p : At B) {n : ℕ} → Free K sound n p → IfWent (Free K sound n) (rightClause B source i p)
-    unfolding rightClause
-    rightClause-if p on = cond-if (next B source (eqb Token.Right) p) (λ e. clauseLr-if K sound p (wider K sound on) (seen source (eqb Token.Right) (p .lexer) e .0)) (λ _. goes on)
+        (λ q on. then-if (itemList-if Scope.Environment q on) (λ q on. then-if (endClause-if K sound q on) (λ q on. closes K sound SyntaxKind.ItemEnv _ q on))))
 
     itemLr-if : (p : At B) {n : ℕ} → Free K sound (suc n) p → There source (p .lexer) → IfWent (Free K sound n) (itemLr B source i p)
     unfolding itemLr steps
     itemLr-if p on there =
         opened-then K sound _ (start! K sound SyntaxKind.ItemLR p on) (λ b on. then-if (clauseLr-if K sound (withBuilt B p b) on there)
-        (λ q on. then-if (itemList-if Scope.LR q on) (λ q on. then-if (rightClause-if q on) (λ q on. closes K sound SyntaxKind.ItemLR _ q on))))
+        (λ q on. then-if (itemList-if Scope.LR q on) (λ q on. then-if (rightClause-if K sound q on) (λ q on. closes K sound SyntaxKind.ItemLR _ q on))))
 
     script-if : (hasScript : Bool) (p : At B) {n : ℕ} → Free K sound n p → IfWent (Free K sound n) (script B source i hasScript p)
     unfolding script steps
     script-if true p on = then-if (trivia-if K sound p on) (λ q on. last-if (inner .any true q on))
     script-if false p on = goes on
 
-    attachmentNode-if : (hasScript : Bool) (f : B .Frame) (p : At B) {n : ℕ} → Free K sound (suc n) p → There source (p .lexer) → IfWent (Free K sound n) (attachmentNode B source i hasScript f p)
-    unfolding attachmentNode steps
-    attachmentNode-if hasScript f p on there = then-if (eat-if K sound p on there) (λ q on. then-if (script-if hasScript q on) (λ q on. closes K sound SyntaxKind.ItemAttachComponent f q on))
+    attachmentAt-if : (hasScript : Bool) (m : Option (B .Mark)) (p : At B) {n : ℕ} → Free K sound (suc n) p → There source (p .lexer)
+        → IfWent (Free K sound n) (attachmentAt B source i hasScript m p)
+    unfolding attachmentAt steps
+    attachmentAt-if hasScript m p on there =
+        opened-then K sound _ (startAround! K sound SyntaxKind.ItemAttachComponent m p on) (λ b on. then-if (eat-if K sound (withBuilt B p b) on there)
+        (λ q on. then-if (script-if hasScript q on) (λ q on. closes K sound SyntaxKind.ItemAttachComponent _ q on)))
 
-    attachTo-if : (hasScript : Bool) (m : Option (B .Mark)) (p : At B) {n : ℕ} → Free K sound (suc n) p → There source (p .lexer) → IfWent (Free K sound n) (attachTo B source i hasScript m p)
-    unfolding attachTo steps
-    attachTo-if hasScript (some m) p on there = opened-then K sound _ (wrap! K sound SyntaxKind.ItemAttachComponent m p on) (λ b on. last-if (attachmentNode-if hasScript _ _ on there))
-    attachTo-if true none p on there = opened-then K sound _ (start! K sound SyntaxKind.ItemAttachComponent p on) (λ b on. last-if (attachmentNode-if true _ _ on there))
+    attachTo-if : (hasScript : Bool) (m : Option (B .Mark)) (p : At B) {n : ℕ} → Free K sound (suc n) p → There source (p .lexer)
+        → IfWent (Free K sound n) (attachTo B source i hasScript m p)
+    unfolding attachTo
+    attachTo-if hasScript (some m) p on there = attachmentAt-if hasScript (some m) p on there
+    attachTo-if true none p on there = attachmentAt-if true none p on there
     attachTo-if false none p on there = eat-if K sound p on there
 
     -- ---- any item

@@ -15,8 +15,8 @@ use Rattle.rules.specs.Limits
 use Rattle.rules.specs.Matcher.{Matcher, startMatch, isGreedy, formLeft1, formInfixGreedy}
 use Rattle.rules.specs.Outcome.{Out, went, refused, bind, greedyEnvironment, tooManyOpen}
 use Rattle.rules.specs.Position.{Shape, Source, At, place, asked, withLexer, withList, withMarks, holdingNone, leaf, start, startAt, finish, wrap}
-use Rattle.rules.specs.Reading.{orElse, items, itemList, itemGroup, piece, argument, chosen, choiceFor, arguments, matchArguments, greedyArgument, commandNode, commandOf, environmentArguments, beginClause, endClause, environmentItem, rightClause, itemLr, script, attachmentNode, attachTo, attachComponent, readItem, contentFor, content, contentAt, parse}
-use Rattle.rules.specs.Routines.{eatAs, eat, eatIf, eatWhile, turns, trivia, singleChar, oneIn, dropFrom, ignoreHoldingTrivia, leavesFrom, extractHoldingTrivia, text, delimiterOf, delimiter, clauseLr, dropNext, eatBodyOfIfs, skippedBody, startCommandAt}
+use Rattle.rules.specs.Reading.{items, itemList, itemGroup, piece, argument, chosen, choiceFor, arguments, matchArguments, greedyItems, greedyArgument, greedyCommand, matchedCommand, commandOf, environmentArguments, beginClause, environmentItem, itemLr, script, attachmentAt, attachTo, attachComponent, readItem, contentFor, content, contentAt, parse}
+use Rattle.rules.specs.Routines.{eatAs, eat, eatIf, eatWhile, turns, trivia, singleChar, oneIn, dropFrom, ignoreHoldingTrivia, leavesFrom, extractHoldingTrivia, text, delimiterOf, delimiter, clauseLr, dropNext, eatBodyOfIfs, skippedBody, startAround, orElse, left1Command, argumentNode, endClause, rightClause}
 use Rattle.rules.specs.Scope
 use Rattle.rules.specs.Scope.{Scope, stops}
 use Rattle.rules.specs.SyntaxKind
@@ -287,14 +287,20 @@ module _ {A B : Builder} {Skip May : ℕ → Type 0} (Z : Sim A B Skip May) wher
           → Keeps Skip May (Near Z (n ◂ live ∷ w) (Among [])) (Near Z (n ◂ [] ∷ w) (Among [])) (piece A source i what) (piece B source j what)
       piece~ what {live} p q h = pieceIn~ what p q (forget~ (sub-nil live) h)
 
-      argument~ : (what : Piece) {top : Level A B} {w : World A B} → Quiet (top ∷ w) (Among []) (argument A source i what) (argument B source j what)
-      unfolding argument ignoreHoldingTrivia
-      argument~ what {w} _ _ (near c h m {a} {b} among r) =
+      argumentNode~ : {read : At A → Out (At A)} {read′ : At B → Out (At B)} {top : Level A B} {w : World A B}
+          → ((n : Node A B) (live : Marked) → Keeps Skip May (Near Z (n ◂ live ∷ top ∷ w) (Among [])) (Near Z (n ◂ [] ∷ top ∷ w) (Among [])) read read′)
+          → Quiet (top ∷ w) (Among []) (argumentNode A source read) (argumentNode B source read′)
+      unfolding argumentNode ignoreHoldingTrivia
+      argumentNode~ reads _ _ (near c h m {a} {b} among r) =
           let opened =
           startAs~ SyntaxKind.ClauseArgument {P = Among []} (near c (c .token) m among (dropFrom~ (c .token - h) h r))
           (dropFrom-frame A source (Z .frame-left) (c .token - h) h a)
           (dropFrom-frame B source (Z .frame-right) (c .token - h) h b) in
-          from~ (goes refl refl (opened ▸ piece~ what ⨾ finish~ ⨾ heldNone~ ⨾ done~))
+          from~ (goes refl refl (opened ▸ reads _ _ ⨾ finish~ ⨾ heldNone~ ⨾ done~))
+
+      argument~ : (what : Piece) {top : Level A B} {w : World A B} → Quiet (top ∷ w) (Among []) (argument A source i what) (argument B source j what)
+      unfolding argument
+      argument~ what = argumentNode~ (λ n live. piece~ what)
 
       module _ (more : Matcher → At A → Out (At A)) (more′ : Matcher → At B → Out (At B)) {top : Level A B} {w : World A B} (goesOn : (m : Matcher) → Quiet (top ∷ w) (Among []) (more m) (more′ m)) where
         chosen~ : (choice : Choice) (m : Matcher) → Quiet (top ∷ w) (Among []) (chosen A source i more choice m) (chosen B source j more′ choice m)
@@ -327,18 +333,19 @@ module _ {A B : Builder} {Skip May : ℕ → Type 0} (Z : Sim A B Skip May) wher
           → Keeps Skip May (Near Z (n ◂ live ∷ w) P) (Listing n w) (λ p. went (withMarks A (some (A .mark (p .built))) none p)) (λ q. went (withMarks B (some (B .mark (q .built))) none q))
       anew~ _ _ (near c h m fits r) = went~ (fresh (m .scope) c h r)
 
-      greedyArgument~ : {top : Level A B} {w : World A B} {P P′ : Holds} → Around P P′ → Keeps Skip May (Near Z (top ∷ w) P) (Near Z (top ∷ w) P′) (greedyArgument A source i) (greedyArgument B source j)
+      greedyItems~ : {n : Node A B} {live : Marked} {w : World A B} {P P′ : Holds} → Around P P′
+          → Keeps Skip May (Near Z (n ◂ live ∷ w) P) (Near Z (n ◂ [] ∷ w) P′) (greedyItems A source i) (greedyItems B source j)
+      unfolding greedyItems
+      greedyItems~ {n} {live} {w} {P} around _ _ (near c h marks {a} {b} fits r) =
+          let here : Near Z (n ◂ live ∷ w) P (leftAt c h marks a) (rightAt c h marks b) = near c h marks fits r in
+          steps~ (anew~ ⨾ allItems~ greedyStops ⨾ relist~ (startOnly marks) (around marks fits) ⨾ done~) _ _ here
+
+      greedyArgument~ : {top : Level A B} {w : World A B} {P P′ : Holds} → Around P P′
+          → Keeps Skip May (Near Z (top ∷ w) P) (Near Z (top ∷ w) P′) (greedyArgument A source i) (greedyArgument B source j)
       unfolding greedyArgument
-      greedyArgument~ {P} around _ _ (near c h marks fits r) =
-          from~ (start~ SyntaxKind.ClauseArgument {P = P} (near c h marks fits r) ▸ anew~ ⨾ allItems~ greedyStops ⨾ relist~ (startOnly marks) (around marks fits) ⨾ finish~ ⨾ done~)
+      greedyArgument~ around _ _ h = from~ (start~ SyntaxKind.ClauseArgument h ▸ greedyItems~ around ⨾ finish~ ⨾ done~)
 
       -- ---- commands
-
-      commandNode~ : {rest : At A → Out (At A)} {rest′ : At B → Out (At B)} {live : Marked} {f : A .Frame} {g : B .Frame} {top : Level A B} {w : World A B} {P P′ : Holds}
-          → Keeps Skip May (Near Z (node SyntaxKind.ItemCmd f g ◂ live ∷ top ∷ w) P) (Near Z (node SyntaxKind.ItemCmd f g ◂ live ∷ top ∷ w) P′) rest rest′
-          → Keeps Skip May (Near Z (node SyntaxKind.ItemCmd f g ◂ live ∷ top ∷ w) P) (Near Z (top ∷ w) P′) (commandNode A source i rest f) (commandNode B source j rest′ g)
-      unfolding commandNode
-      commandNode~ k = steps~ (eat~ ⨾ k ⨾ finish~ ⨾ done~)
 
       -- among marks, the start alone is too
       around-among : (l : Marked) → Around (Among l) (Among l)
@@ -348,29 +355,47 @@ module _ {A B : Builder} {Skip May : ℕ → Type 0} (Z : Sim A B Skip May) wher
       abbrev Startless : Holds
       Startless m = m .start ≡ none
 
-      -- a command's node is opened at the newest mark, if at one
+      -- a node is opened at the newest mark, if at one
       data Newest : Option (A .Mark × B .Mark) → Marked → Type 0 where
         at-none : (l : Marked) → Newest none l
         at-first : (x : A .Mark × B .Mark) (l : Marked) → Newest (some x) (x ∷ l)
 
-      startCommandAt~ : {o : Option (A .Mark × B .Mark)} {n : Node A B} {live : Marked} {w : World A B} {P : Holds} {p : At A} {q : At B} → Newest o live → Near Z (n ◂ live ∷ w) P p q
-          → O (Near Z (opening A B SyntaxKind.ItemCmd (p .built) (q .built) ◂ live ∷ n ◂ live ∷ w) P) (startCommandAt A source (lefts o) p) (startCommandAt B source (rights o) q)
-      unfolding startCommandAt
-      startCommandAt~ (at-none l) h = start~ SyntaxKind.ItemCmd h
-      startCommandAt~ (at-first x l) h = wrap~ SyntaxKind.ItemCmd h
+      startAround~ : (kind : ℕ) {o : Option (A .Mark × B .Mark)} {n : Node A B} {live : Marked} {w : World A B} {P : Holds} {p : At A} {q : At B}
+          → Newest o live → Near Z (n ◂ live ∷ w) P p q
+          → O (Near Z (opening A B kind (p .built) (q .built) ◂ live ∷ n ◂ live ∷ w) P)
+          (startAround A source kind (lefts o) p) (startAround B source kind (rights o) q)
+      unfolding startAround
+      startAround~ kind (at-none l) h = start~ kind h
+      startAround~ kind (at-first x l) h = wrap~ kind h
 
       at-listed : (o : Option (A .Mark × B .Mark)) → Newest o (listed o)
       at-listed none = at-none []
       at-listed (some x) = at-first x []
 
+      greedyCommand~ : {o : Option (A .Mark × B .Mark)} {n : Node A B} {live : Marked} {w : World A B} {P P′ : Holds} {p : At A} {q : At B}
+          → Around P P′ → Newest o live → Near Z (n ◂ live ∷ w) P p q
+          → O (Near Z (n ◂ live ∷ w) P′) (greedyCommand A source i (lefts o) p) (greedyCommand B source j (rights o) q)
+      unfolding greedyCommand
+      greedyCommand~ around newest h = from~ (startAround~ SyntaxKind.ItemCmd newest h ▸ eat~ ⨾ greedyArgument~ around ⨾ finish~ ⨾ done~)
+
+      matchedCommand~ : (m : Matcher) {top : Level A B} {w : World A B} {P P′ : Holds} → Around P P′
+          → Keeps Skip May (Near Z (top ∷ w) P) (Near Z (top ∷ w) P′) (matchedCommand A source i m) (matchedCommand B source j m)
+      unfolding matchedCommand
+      matchedCommand~ m around _ _ h = from~ (start~ SyntaxKind.ItemCmd h ▸ eat~ ⨾ matchArguments~ m around ⨾ finish~ ⨾ extract~ ⨾ done~)
+
       -- left1: at last, else at start
-      left1~ : (s : Scope) (first last : Option (A .Mark × B .Mark)) (c : Cursor) (h : ℕ) {n : Node A B} {w : World A B} {a : A .State} {b : B .State}
+      left1Command~ : (s : Scope) (first last : Option (A .Mark × B .Mark)) (c : Cursor) (h : ℕ) {n : Node A B} {w : World A B} {a : A .State} {b : B .State}
           → Z .R (n ◂ (listed last ++ listed first) ∷ w) a b
-          → O (Near Z (opening A B SyntaxKind.ItemCmd a b ◂ (listed last ++ listed first) ∷ n ◂ (listed last ++ listed first) ∷ w) (Among (listed last ++ listed first)))
-          (startCommandAt A source (orElse A source (lefts last) (lefts first)) (leftAt c h (record { scope = s; start = first; last = last }) a))
-          (startCommandAt B source (orElse B source (rights last) (rights first)) (rightAt c h (record { scope = s; start = first; last = last }) b))
-      left1~ s first none c h r = startCommandAt~ (at-listed first) (near c h (record { scope = s; start = first; last = none }) (sub-refl _) r)
-      left1~ s first (some x) c h r = startCommandAt~ (at-first x (listed first)) (near c h (record { scope = s; start = first; last = some x }) (sub-refl _) r)
+          → O (Near Z (n ◂ (listed last ++ listed first) ∷ w) (Among (listed last ++ listed first)))
+          (left1Command A source (leftAt c h (record { scope = s; start = first; last = last }) a))
+          (left1Command B source (rightAt c h (record { scope = s; start = first; last = last }) b))
+      unfolding left1Command
+      left1Command~ s first none c h r =
+          let here = near c h (record { scope = s; start = first; last = none }) (sub-refl _) r in
+          from~ (startAround~ SyntaxKind.ItemCmd (at-listed first) here ▸ eat~ ⨾ finish~ ⨾ done~)
+      left1Command~ s first (some x) c h r =
+          let here = near c h (record { scope = s; start = first; last = some x }) (sub-refl _) r in
+          from~ (startAround~ SyntaxKind.ItemCmd (at-first x (listed first)) here ▸ eat~ ⨾ finish~ ⨾ done~)
 
       -- ---- environments, left-right bodies, scripts
 
@@ -386,7 +411,7 @@ module _ {A B : Builder} {Skip May : ℕ → Type 0} (Z : Sim A B Skip May) wher
       beginClause~ l _ _ (near c h m among r) =
           from~ (start~ SyntaxKind.ItemBegin {P = Among l} (near c h m among r) ▸ eat~ ⨾ environmentArguments~ (ofClass classEnvironment (source .shape (c .token))) l ⨾ finish~ ⨾ extract~ ⨾ done~)
 
-      endClause~ : {top : Level A B} {w : World A B} {P : Holds} → Quiet (top ∷ w) P (endClause A source i) (endClause B source j)
+      endClause~ : {top : Level A B} {w : World A B} {P : Holds} → Quiet (top ∷ w) P (endClause A source) (endClause B source)
       unfolding endClause
       endClause~ _ _ (near c h m fits r) = cond~ (sees (eqb Token.EndEnvironment) c) (λ _. oneIn~ SyntaxKind.ItemEnd _ _ (near c h m fits r)) (λ _. went~ (near c h m fits r))
 
@@ -394,7 +419,7 @@ module _ {A B : Builder} {Skip May : ℕ → Type 0} (Z : Sim A B Skip May) wher
       unfolding environmentItem
       environmentItem~ l _ _ h = from~ (start~ SyntaxKind.ItemEnv h ▸ beginClause~ l ⨾ itemList~ Scope.Environment ⨾ endClause~ ⨾ finish~ ⨾ done~)
 
-      rightClause~ : {top : Level A B} {w : World A B} {P : Holds} → Quiet (top ∷ w) P (rightClause A source i) (rightClause B source j)
+      rightClause~ : {top : Level A B} {w : World A B} {P : Holds} → Quiet (top ∷ w) P (rightClause A source) (rightClause B source)
       unfolding rightClause
       rightClause~ _ _ (near c h m fits r) = cond~ (sees (eqb Token.Right) c) (λ _. clauseLr~ _ _ (near c h m fits r)) (λ _. went~ (near c h m fits r))
 
@@ -408,10 +433,12 @@ module _ {A B : Builder} {Skip May : ℕ → Type 0} (Z : Sim A B Skip May) wher
       script~ true l {n} {w} p q h = steps~ (trivia~ ⨾ (λ p q h. weaker~ (λ p q. settled) (inner true [] l n w p q h)) ⨾ done~) p q h
       script~ false l p q h = went~ (forget~ (sub-nil l) h)
 
-      attachmentNode~ : (hasScript : Bool) (l : Marked) {f : A .Frame} {g : B .Frame} {top : Level A B} {w : World A B}
-          → Keeps Skip May (Near Z (node SyntaxKind.ItemAttachComponent f g ◂ l ∷ top ∷ w) (Among l)) (Near Z (top ∷ w) (Among l)) (attachmentNode A source i hasScript f) (attachmentNode B source j hasScript g)
-      unfolding attachmentNode
-      attachmentNode~ hasScript l = steps~ (eat~ ⨾ script~ hasScript l ⨾ finish~ ⨾ done~)
+      attachmentAt~ : (hasScript : Bool) (l : Marked) {o : Option (A .Mark × B .Mark)} {n : Node A B} {w : World A B} {p : At A} {q : At B}
+          → Newest o l → Near Z (n ◂ l ∷ w) (Among l) p q
+          → O (Near Z (n ◂ l ∷ w) (Among l)) (attachmentAt A source i hasScript (lefts o) p) (attachmentAt B source j hasScript (rights o) q)
+      unfolding attachmentAt
+      attachmentAt~ hasScript l newest h =
+          from~ (startAround~ SyntaxKind.ItemAttachComponent newest h ▸ eat~ ⨾ script~ hasScript l ⨾ finish~ ⨾ done~)
 
       module _ (front l : Marked) (n : Node A B) (w : World A B) where
         -- what was there before an item
@@ -432,15 +459,15 @@ module _ {A B : Builder} {Skip May : ℕ → Type 0} (Z : Sim A B Skip May) wher
             let here = near c h m among r in
             cond~ (nameOnly s) (λ _. plain~ _ (oneIn~ SyntaxKind.ItemCmd _ _ here))
             (λ _. cond~ (eqb (s .form) formLeft1)
-            (λ e. wrapped~ (rw e) among (from~ (left1~ (m .scope) (m .start) (m .last) c h (Z .forgets (sub-trans among (sub-behind front l)) r) ▸ commandNode~ (λ p q h. went~ h) ⨾ done~)))
+            (λ e. wrapped~ (rw e) among (left1Command~ (m .scope) (m .start) (m .last) c h (Z .forgets (sub-trans among (sub-behind front l)) r)))
             (λ d. cond~ (eqb (s .form) formInfixGreedy)
             (λ e.
-            let here = near c h (record { scope = m .scope; start = none; last = m .last }) refl (Z .forgets (sub-trans (sub-trans (start-of m) among) (sub-behind front l)) r) in
-            let node = commandNode~ (greedyArgument~ (λ n e s. rw e nil)) in
-            wrapped~ (rw (d, e)) (sub-nil l) (weaker~ (λ p q. forget~ (sub-nil _)) (from~ (goes refl refl (startCommandAt~ {P = Startless} (at-listed (m .start)) here ▸ node ⨾ done~)))))
+            let marks : Marks (A .Mark) (B .Mark) = record { scope = m .scope; start = none; last = m .last } in
+            let here : Near Z (n ◂ listed (m .start) ∷ w) Startless (leftAt c h marks _) (rightAt c h marks _) = near c h marks refl (Z .forgets (sub-trans (sub-trans (start-of m) among) (sub-behind front l)) r) in
+            wrapped~ (rw (d, e)) (sub-nil l) (weaker~ (λ p q. forget~ (sub-nil _)) (greedyCommand~ (λ n e s. rw e nil) (at-listed (m .start)) here)))
             (λ _. cond~ (isGreedy (startMatch (s .form) (s .value)))
-            (λ _. plain~ _ (from~ (start~ SyntaxKind.ItemCmd here ▸ commandNode~ (greedyArgument~ (around-among l)) ⨾ done~)))
-            (λ _. plain~ _ (from~ (start~ SyntaxKind.ItemCmd here ▸ commandNode~ (matchArguments~ _ (around-among l)) ⨾ extract~ ⨾ done~))))))
+            (λ _. plain~ _ (greedyCommand~ (around-among l) (at-none _) here))
+            (λ _. plain~ _ (matchedCommand~ _ (around-among l) _ _ here)))))
 
         attachTo~ : (hasScript : Bool) (s : Scope) (first last : Option (A .Mark × B .Mark)) (c : Cursor) (h : ℕ) {a : A .State} {b : B .State}
             → Sub (listed last ++ listed first) l
@@ -450,11 +477,12 @@ module _ {A B : Builder} {Skip May : ℕ → Type 0} (Z : Sim A B Skip May) wher
             (attachTo B source j hasScript (rights last) (rightAt c h (record { scope = s; start = first; last = last }) b))
         unfolding attachTo
         attachTo~ hasScript s first (some x) c h among r =
-            wrapped~ refl among
-            (from~ (wrap~ SyntaxKind.ItemAttachComponent (near c h (record { scope = s; start = first; last = some x }) (sub-refl _) (Z .forgets (sub-trans among (sub-behind front l)) r)) ▸ attachmentNode~ hasScript _ ⨾ done~))
+            let marks : Marks (A .Mark) (B .Mark) = record { scope = s; start = first; last = some x } in
+            let here = near c h marks (sub-refl _) (Z .forgets (sub-trans among (sub-behind front l)) r) in
+            wrapped~ refl among (attachmentAt~ hasScript _ (at-first x (listed first)) here)
         attachTo~ true s first none c h among r =
-            wrapped~ refl (sub-refl l)
-            (from~ (start~ SyntaxKind.ItemAttachComponent (near c h (record { scope = s; start = first; last = none }) among (Z .forgets (sub-behind front l) r)) ▸ attachmentNode~ true l ⨾ done~))
+            let here = near c h (record { scope = s; start = first; last = none }) among (Z .forgets (sub-behind front l) r) in
+            wrapped~ refl (sub-refl l) (attachmentAt~ true l (at-none l) here)
         attachTo~ false s first none c h among r = plain~ false (eat~ _ _ (near c h (record { scope = s; start = first; last = none }) among r))
 
         -- ---- any item

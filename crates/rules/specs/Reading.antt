@@ -11,8 +11,8 @@ use Rattle.rules.specs.Items.{Item, plain, error, word, comma, group, at
 use Rattle.rules.specs.Limits
 use Rattle.rules.specs.Matcher.{Matcher, startMatch, isGreedy, formLeft1, formInfixGreedy}
 use Rattle.rules.specs.Outcome.{Out, went, refused, bind, greedyEnvironment, tooManyOpen}
-use Rattle.rules.specs.Position.{Shape, Source, At, Rule, steps, place, withList, withMarks, holdingNone, start, finish, wrap}
-use Rattle.rules.specs.Routines.{next, turns, eat, eatIf, trivia, singleChar, oneIn, holdTrivia, ignoreHoldingTrivia, extractHoldingTrivia, text, clauseLr, skippedBody, startCommandAt}
+use Rattle.rules.specs.Position.{Shape, Source, At, Rule, steps, place, withList, withMarks, holdingNone, start, finish}
+use Rattle.rules.specs.Routines.{next, turns, eat, eatIf, trivia, singleChar, oneIn, holdTrivia, extractHoldingTrivia, text, clauseLr, skippedBody, startAround, left1Command, argumentNode, endClause, rightClause}
 use Rattle.rules.specs.Scope
 use Rattle.rules.specs.Scope.{Scope, stops}
 use Rattle.rules.specs.SyntaxKind
@@ -27,11 +27,6 @@ module _ (B : Builder) (source : Source) where
   -- "Last becomes the mark before an item whose reading says attachable": what last is behind the item that begins at p and ends at q
   abbrev pub lastAfter : At B → At B → At B
   lastAfter p q = withMarks B (q .list .start) (cond (attachable (kindAt (source .tokens) (place B p)) (source .shape (place B p))) (some (B .mark (p .built))) (q .list .last)) q
-
-  -- "from last, else start, else nothing"
-  abbrev pub orElse : Option (B .Mark) → Option (B .Mark) → Option (B .Mark)
-  orElse none other = other
-  orElse (some m) other = some m
 
   -- reads an item inside a node; the Bool says whether one character of a Word is enough
   module _ (inner : Bool → Rule B) where
@@ -73,17 +68,9 @@ module _ (B : Builder) (source : Source) where
     piece brace p = eat B source p
     piece item p = inner false p
 
-    -- `arg`: "an accepted argument drops what is held", and has a node of its own
+    -- an argument: its node around that
     unfoldable pub argument : Piece → Rule B
-    argument what p =
-        steps
-        (ignoreHoldingTrivia B source
-        ∷ start B SyntaxKind.ClauseArgument
-        ∷ piece what
-        ∷ finish B SyntaxKind.ClauseArgument (B .frame (p .built))
-        ∷ (λ q. went (holdingNone B q))
-        ∷ [])
-        p
+    argument what = argumentNode B source (piece what)
 
     -- a turn of `match_arguments_`: the arguments end, a token is held, or an argument is read and the matcher goes on
     abbrev pub chosen : (Matcher → Rule B) → Choice → Matcher → Rule B
@@ -115,50 +102,62 @@ module _ (B : Builder) (source : Source) where
         ∷ [])
         p
 
-    -- `match_arguments` of a greedy command, all of it in one node. "Start is .. a new mark inside greedy ones." "`[` and `(` are eaten plain. Last becomes
-    -- the mark before each opening brace's item, plain ones too, and each attachable item": that is what reading these as items does
+    -- `match_arguments` of a greedy command. "Start is .. a new mark inside greedy ones." "`[` and `(` are eaten plain. Last becomes the mark before each
+    -- opening brace's item, plain ones too, and each attachable item": that is what reading these as items does
+    unfoldable pub greedyItems : Rule B
+    greedyItems p =
+        steps
+        ((λ q. went (withMarks B (some (B .mark (q .built))) none q))
+        ∷ (λ q. items (greedyStops (q .list .scope)) (turns B source q) q)
+        ∷ (λ q. went (withMarks B (p .list .start) none q))
+        ∷ [])
+        p
+
+    -- all that a greedy command takes, in one node
     unfoldable pub greedyArgument : Rule B
     greedyArgument p =
         steps
         (start B SyntaxKind.ClauseArgument
-        ∷ (λ q. went (withMarks B (some (B .mark (q .built))) none q))
-        ∷ (λ q. items (greedyStops (q .list .scope)) (turns B source q) q)
-        ∷ (λ q. went (withMarks B (p .list .start) none q))
+        ∷ greedyItems
         ∷ finish B SyntaxKind.ClauseArgument (B .frame (p .built))
         ∷ [])
         p
 
     -- ---- commands
 
-    -- a command's node is open: its name, its arguments, its end
-    unfoldable pub commandNode : Rule B → B .Frame → Rule B
-    commandNode rest parent p = steps (eat B source ∷ rest ∷ finish B SyntaxKind.ItemCmd parent ∷ []) p
+    -- a greedy command, around what stands from a mark on if there is one:  a\o b   Cmd[Arg[Text a] \o Arg[..]]
+    unfoldable pub greedyCommand : Option (B .Mark) → Rule B
+    greedyCommand at p =
+        steps
+        (startAround B source SyntaxKind.ItemCmd at
+        ∷ eat B source
+        ∷ greedyArgument
+        ∷ finish B SyntaxKind.ItemCmd (B .frame (p .built))
+        ∷ [])
+        p
+
+    -- a command whose arguments a matcher takes:  \f12   Cmd[\f Arg[1] Arg[2]]
+    unfoldable pub matchedCommand : Matcher → Rule B
+    matchedCommand m p =
+        steps
+        (start B SyntaxKind.ItemCmd
+        ∷ eat B source
+        ∷ matchArguments m
+        ∷ finish B SyntaxKind.ItemCmd (B .frame (p .built))
+        ∷ extractHoldingTrivia B source
+        ∷ [])
+        p
 
     -- `command`, by its shape
     unfoldable pub commandOf : Shape → Rule B
     commandOf s p =
         -- "name only, attachable":  \z   Cmd[\z]
         cond (nameOnly s) (oneIn B source SyntaxKind.ItemCmd p)
-        -- "Left1: wraps from last, else start, else nothing; not attachable":  a\l   Cmd[Arg[Text a] \l]
-        (cond (eqb (s .form) formLeft1)
-        (steps (startCommandAt B source (orElse (p .list .last) (p .list .start)) ∷ commandNode went (B .frame (p .built)) ∷ []) p)
-        -- "Infix-greedy: takes start away and wraps from it if there was one":  a\o b   Cmd[Arg[Text a] \o Arg[..]]
-        (cond (eqb (s .form) formInfixGreedy)
-        (steps
-        ((λ q. went (withMarks B none (q .list .last) q))
-        ∷ startCommandAt B source (p .list .start)
-        ∷ commandNode greedyArgument (B .frame (p .built))
-        ∷ [])
-        p)
-        (cond (isGreedy (startMatch (s .form) (s .value)))
-        (steps (start B SyntaxKind.ItemCmd ∷ commandNode greedyArgument (B .frame (p .built)) ∷ []) p)
-        -- any other:  \f12   Cmd[\f Arg[1] Arg[2]]
-        (steps
-        (start B SyntaxKind.ItemCmd
-        ∷ commandNode (matchArguments (startMatch (s .form) (s .value))) (B .frame (p .built))
-        ∷ extractHoldingTrivia B source
-        ∷ [])
-        p))))
+        (cond (eqb (s .form) formLeft1) (left1Command B source p)
+        -- "Infix-greedy: takes start away and wraps from it if there was one"
+        (cond (eqb (s .form) formInfixGreedy) (greedyCommand (p .list .start) (withMarks B none (p .list .last) p))
+        (cond (isGreedy (startMatch (s .form) (s .value))) (greedyCommand none p)
+        (matchedCommand (startMatch (s .form) (s .value)) p))))
 
     -- ---- environments, left-right bodies, attachments
 
@@ -181,10 +180,6 @@ module _ (B : Builder) (source : Source) where
         ∷ [])
         p
 
-    -- the \end, if it is next
-    unfoldable pub endClause : Rule B
-    endClause p = cond (next B source (eqb Token.EndEnvironment) p) (oneIn B source SyntaxKind.ItemEnd p) (went p)
-
     -- `environment`, "as the source has" it:  \begin{m}a\end{m}   Env[Begin[m] Text[a] End[m]]
     unfoldable pub environmentItem : Rule B
     environmentItem p =
@@ -192,14 +187,10 @@ module _ (B : Builder) (source : Source) where
         (start B SyntaxKind.ItemEnv
         ∷ beginClause
         ∷ itemList Scope.Environment
-        ∷ endClause
+        ∷ endClause B source
         ∷ finish B SyntaxKind.ItemEnv (B .frame (p .built))
         ∷ [])
         p
-
-    -- the \right, if it is next
-    unfoldable pub rightClause : Rule B
-    rightClause p = cond (next B source (eqb Token.Right) p) (clauseLr B source p) (went p)
 
     -- `item_lr`:  \left(a\right)   LR[ClauseLR[\left (] Text[a] ClauseLR[\right )]]
     unfoldable pub itemLr : Rule B
@@ -208,7 +199,7 @@ module _ (B : Builder) (source : Source) where
         (start B SyntaxKind.ItemLR
         ∷ clauseLr B source
         ∷ itemList Scope.LR
-        ∷ rightClause
+        ∷ rightClause B source
         ∷ finish B SyntaxKind.ItemLR (B .frame (p .built))
         ∷ [])
         p
@@ -218,14 +209,21 @@ module _ (B : Builder) (source : Source) where
     script true p = steps (trivia B source ∷ inner true ∷ []) p
     script false p = went p
 
-    -- an attachment's node is open: its token, its script, its end
-    unfoldable pub attachmentNode : Bool → B .Frame → Rule B
-    attachmentNode hasScript parent p = steps (eat B source ∷ script hasScript ∷ finish B SyntaxKind.ItemAttachComponent parent ∷ []) p
+    -- an attachment, around what stands from a mark on if there is one:  a_b   Attach[Arg[Text a] _ b]
+    unfoldable pub attachmentAt : Bool → Option (B .Mark) → Rule B
+    attachmentAt hasScript at p =
+        steps
+        (startAround B source SyntaxKind.ItemAttachComponent at
+        ∷ eat B source
+        ∷ script hasScript
+        ∷ finish B SyntaxKind.ItemAttachComponent (B .frame (p .built))
+        ∷ [])
+        p
 
-    -- `attach_component`:  a_b   Attach[Arg[Text a] _ b];  without a last mark `'` is a plain leaf, and `_b` is Attach[_ b]
+    -- `attach_component`: without a last mark `'` is a plain leaf, and `_b` is Attach[_ b]
     unfoldable pub attachTo : Bool → Option (B .Mark) → Rule B
-    attachTo hasScript (some m) p = steps (wrap B SyntaxKind.ItemAttachComponent m ∷ attachmentNode hasScript (B .frame (p .built)) ∷ []) p
-    attachTo true none p = steps (start B SyntaxKind.ItemAttachComponent ∷ attachmentNode true (B .frame (p .built)) ∷ []) p
+    attachTo hasScript (some m) p = attachmentAt hasScript (some m) p
+    attachTo true none p = attachmentAt true none p
     attachTo false none p = eat B source p
 
     unfoldable pub attachComponent : Bool → Rule B

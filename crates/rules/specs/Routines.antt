@@ -126,7 +126,44 @@ module _ (B : Builder) (source : Source) where
   unfoldable pub skippedBody : ℕ → Rule B
   skippedBody kind p = steps (start B kind ∷ dropNext reasonOpener ∷ (λ q. eatBodyOfIfs (turns q) 0 q) ∷ finish B kind (B .frame (p .built)) ∷ []) p
 
-  -- `start_command_at`: a command's node, around what stands from a mark on if there is one
-  unfoldable pub startCommandAt : Option (B .Mark) → Rule B
-  startCommandAt none p = start B SyntaxKind.ItemCmd p
-  startCommandAt (some m) p = wrap B SyntaxKind.ItemCmd m p
+  -- ---- parts of items that have an item inside: what is read inside is given
+
+  -- `start_command_at`, and the same for an attachment: a node of a kind begins, around what stands from a mark on if there is one
+  unfoldable pub startAround : ℕ → Option (B .Mark) → Rule B
+  startAround kind none p = start B kind p
+  startAround kind (some m) p = wrap B kind m p
+
+  -- "from last, else start, else nothing"
+  abbrev pub orElse : Option (B .Mark) → Option (B .Mark) → Option (B .Mark)
+  orElse none other = other
+  orElse (some m) other = some m
+
+  -- "Left1: wraps from last, else start, else nothing":  a\l   Cmd[Arg[Text a] \l]
+  unfoldable pub left1Command : Rule B
+  left1Command p =
+      steps
+      (startAround SyntaxKind.ItemCmd (orElse (p .list .last) (p .list .start))
+      ∷ eat
+      ∷ finish B SyntaxKind.ItemCmd (B .frame (p .built))
+      ∷ [])
+      p
+
+  -- `arg`: "an accepted argument drops what is held", and has a node of its own around what is read
+  unfoldable pub argumentNode : Rule B → Rule B
+  argumentNode read p =
+      steps
+      (ignoreHoldingTrivia
+      ∷ start B SyntaxKind.ClauseArgument
+      ∷ read
+      ∷ finish B SyntaxKind.ClauseArgument (B .frame (p .built))
+      ∷ (λ q. went (holdingNone B q))
+      ∷ [])
+      p
+
+  -- the \end, if it is next
+  unfoldable pub endClause : Rule B
+  endClause p = cond (next (eqb Token.EndEnvironment) p) (oneIn SyntaxKind.ItemEnd p) (went p)
+
+  -- the \right, if it is next
+  unfoldable pub rightClause : Rule B
+  rightClause p = cond (next (eqb Token.Right) p) (clauseLr p) (went p)
