@@ -14,55 +14,75 @@ use builder::Checkpoint;
 use builder::Frame;
 use builder::GreenNodeBuilder;
 use lexer::Lexer;
+use syntax::ParseScope;
 
-// `Option<Checkpoint>`: row 0 is the root's own start, where no mark is made, so it says that there is none. An enum's tag would have seven
-// unused bytes behind it, and copies of those make the processor wait.
-pub struct Mark {
+// `Option<Checkpoint>`.
+pub enum Mark {
+    Nothing,
+    At(Checkpoint),
+}
+
+impl Mark {
+    pub fn is_nothing(self) -> bool
+        ensures { λ r. ⌜ r ≡ isNothing self ⌝ }
+    {
+        match self {
+            Self::Nothing => true,
+            Self::At(_) => false,
+        }
+    }
+
+    // `Option::or`: this mark where there is one, else the other.
+    pub fn or(self, other: Mark) -> Mark
+        ensures { λ r. ⌜ r ≡ orMark self other ⌝ }
+    {
+        match self {
+            Self::Nothing => other,
+            Self::At(checkpoint) => Self::At(checkpoint),
+        }
+    }
+
+    fn kept(self) -> KeptMark
+        ensures { λ r. ⌜ r ≡ keptOf self ⌝ }
+    {
+        match self {
+            Self::Nothing => KeptMark {
+                children: 0,
+                row: 0,
+            },
+            Self::At(checkpoint) => KeptMark {
+                children: checkpoint.children,
+                row: checkpoint.row,
+            },
+        }
+    }
+}
+
+// A mark as the state keeps it, in two numbers: row 0 is the root's own start, where no mark is made, so it says that there is none.
+pub struct KeptMark {
     pub children: usize,
     pub row: usize,
 }
 
-impl Mark {
-    pub fn nothing() -> Self
-        ensures { λ r. ⌜ r ≡ noMark ⌝ }
+impl KeptMark {
+    fn mark(self) -> Mark
+        ensures { λ r. ⌜ r ≡ markIn self ⌝ }
     {
-        Self {
-            children: 0,
-            row: 0,
+        if self.row == 0 {
+            return Mark::Nothing;
         }
-    }
-
-    // A checkpoint at row 0 would make none; none is made there, since the root's start row is written first.
-    pub fn at(checkpoint: Checkpoint) -> Self
-        ensures { λ r. ⌜ r ≡ markAt checkpoint ⌝ }
-    {
-        Self {
-            children: checkpoint.children,
-            row: checkpoint.row,
-        }
-    }
-
-    pub fn is_nothing(self) -> bool
-        ensures { λ r. ⌜ r ≡ isNothing self ⌝ }
-    {
-        self.row == 0
-    }
-
-    pub fn checkpoint(self) -> Checkpoint
-        ensures { λ r. ⌜ r ≡ checkpointOf self ⌝ }
-    {
-        Checkpoint {
+        Mark::At(Checkpoint {
             children: self.children,
             row: self.row,
-        }
+        })
     }
 }
 
 // A list has a scope, here by its number, a start mark and a last mark.
 pub struct ListState {
     pub scope: usize,
-    pub start: Mark,
-    pub last: Mark,
+    pub start: KeptMark,
+    pub last: KeptMark,
 }
 
 // What is read, the first held token, the list that is read, the builder's numbers, and how many rows are dropped.
@@ -109,12 +129,57 @@ impl Parser {
         next
     }
 
+    // A list of a scope, with these marks.
+    pub fn with_scope(self, scope: ParseScope, start: Mark, last: Mark) -> Self
+        ensures { λ r. ⌜ r ≡ relisted self (record { scope = numberOf scope; start = keptOf start; last = keptOf last }) ⌝ }
+    {
+        self.with_list(ListState {
+            scope: scope.number(),
+            start: start.kept(),
+            last: last.kept(),
+        })
+    }
+
+    // The same list, with these marks.
     pub fn with_marks(self, start: Mark, last: Mark) -> Self
-        ensures { λ r. ⌜ r ≡ remarked self start last ⌝ }
+        ensures { λ r. ⌜ r ≡ remarked self (keptOf start) (keptOf last) ⌝ }
     {
         let list = self.list;
-        let scope = list.scope;
-        self.with_list(ListState { scope, start, last })
+        self.with_list(ListState {
+            scope: list.scope,
+            start: start.kept(),
+            last: last.kept(),
+        })
+    }
+
+    pub fn scope(self) -> ParseScope
+        ensures { λ r. ⌜ scopeOf r ≡ scopeAt (self .list .scope) ⌝ }
+    {
+        let list = self.list;
+        ParseScope::numbered(list.scope)
+    }
+
+    pub fn list_start(self) -> Mark
+        ensures { λ r. ⌜ r ≡ markIn (self .list .start) ⌝ }
+    {
+        let list = self.list;
+        let start = list.start;
+        start.mark()
+    }
+
+    pub fn list_last(self) -> Mark
+        ensures { λ r. ⌜ r ≡ markIn (self .list .last) ⌝ }
+    {
+        let list = self.list;
+        let last = list.last;
+        last.mark()
+    }
+
+    // The mark here.
+    pub fn checkpoint(self) -> Mark
+        ensures { λ r. ⌜ r ≡ markAt self ⌝ }
+    {
+        Mark::At(self.builder.checkpoint())
     }
 
     // Nothing is held.

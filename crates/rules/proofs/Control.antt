@@ -21,7 +21,7 @@ use Rattle.rules.specs.Outcome.{Out, went, bind, greedyEnvironment, mark
 use Rattle.rules.specs.Placed.{Placed, Places, leaf, node, none, more, places, leavesIn, leavesAll, Placing, firstOf, leafed, opened, openedAt, closed, noted, placing, nothing}
 use Rattle.rules.specs.Position.{Shape, Source, At, place, asked, steps, withMarks, holdingNone, start, finish, wrap}
 use Rattle.rules.specs.Reading.{items, itemList, itemGroup, piece, argument, chosen, choiceFor, arguments, matchArguments, greedyItems, greedyArgument, greedyCommand, matchedCommand, commandOf, environmentArguments, beginClause, environmentItem, itemLr, script, attachmentAt, attachTo, attachComponent, readItem, contentFor, content, contentAt, parse}
-use Rattle.rules.specs.Routines.{eatAs, eat, eatIf, eatWhile, turns, trivia, singleChar, oneIn, holdTrivia, dropFrom, ignoreHoldingTrivia, leavesFrom, extractHoldingTrivia, text, delimiterOf, delimiter, clauseLr, dropNext, eatBodyOfIfs, skippedBody, startAround, orElse, left1Command, argumentNode, endClause, rightClause}
+use Rattle.rules.specs.Routines.{eatAs, eat, eatIf, eatWhile, turns, trivia, singleChar, oneIn, holdTrivia, dropFrom, ignoreHoldingTrivia, leavesFrom, extractHoldingTrivia, text, delimiterOf, delimiter, clauseLr, dropNext, eatBodyOfIfs, skippedBody, startAround, orElse, left1Command, argumentBegins, argumentEnds, argumentNode, endClause, rightClause}
 use Rattle.rules.specs.Rowan.{markPastLast}
 use Rattle.rules.specs.Scope
 use Rattle.rules.specs.Scope.{Scope, among, stops}
@@ -491,7 +491,7 @@ module _ (source : Source) where
 
     module _ {g : Ground} {kind from : ℕ} where
       argument-in : (what : Piece) → Takes (Holding g kind from) (Holding g kind from) (argument placing source inner what)
-      unfolding argument argumentNode ignoreHoldingTrivia steps
+      unfolding argument argumentNode argumentBegins argumentEnds ignoreHoldingTrivia steps
       argument-in what p h =
           let at = place placing p in
           let held = p .held in

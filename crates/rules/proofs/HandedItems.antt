@@ -1,6 +1,6 @@
 -- What a builder is handed by the routines that read items inside items are the tokens, in order; each item leaves less to read, so the root's list goes to the
 -- last token: one induction over the knot. Assumes nothing.
-use Prim.Native.Nat.{ℕ, zero, suc, _≤_}
+use Prim.Native.Nat.{ℕ, zero, suc, _-_, _≤_}
 use mathlib.Core.Path.{_≡_, refl, sym, _∙_}
 use mathlib.Core.Bool.{Bool, true, false, cond, false≢true}
 use mathlib.Core.List.{[], _∷_}
@@ -17,9 +17,9 @@ use Rattle.rules.specs.Limits
 use Rattle.rules.specs.Matcher.{Matcher, Tried, Matched, term, bracket, paren, tryMatch, matchAsTerm, startMatch, isGreedy, formLeft1, formInfixGreedy}
 use Rattle.rules.specs.Matcher
 use Rattle.rules.specs.Outcome.{went, refused, greedyEnvironment, tooManyOpen}
-use Rattle.rules.specs.Position.{Shape, Source, At, Rule, steps, asked, place, withBuilt, start, finish}
+use Rattle.rules.specs.Position.{Shape, Source, At, Rule, steps, asked, place, withBuilt, holdingNone, start, finish}
 use Rattle.rules.specs.Reading.{shapeHere, lastAfter, items, itemList, itemGroup, piece, argument, chosen, choiceFor, arguments, matchArguments, greedyItems, greedyArgument, greedyCommand, matchedCommand, commandOf, environmentArguments, beginClause, environmentItem, itemLr, script, attachmentAt, attachTo, attachComponent, readItem, contentFor, content, contentAt, parse}
-use Rattle.rules.specs.Routines.{next, turns, ignoreHoldingTrivia, holdTrivia, argumentNode}
+use Rattle.rules.specs.Routines.{next, turns, ignoreHoldingTrivia, holdTrivia, dropFrom, argumentBegins, argumentEnds, argumentNode}
 use Rattle.rules.specs.Scope
 use Rattle.rules.specs.Scope.{Scope, stops, among}
 use Rattle.rules.specs.SyntaxKind
@@ -150,10 +150,12 @@ module _ {B : Builder} {source : Source} (K : Handed B source) (sound : Sound so
 
     pub argument-if : (what : Piece) (p : At B) {n : ℕ} → Held K sound (suc n) p → There source (p .lexer) → Suits source (p .lexer) what
         → IfWent (Held K sound n) (argument B source i what p)
-    unfolding argument argumentNode ignoreHoldingTrivia steps
+    unfolding argument argumentNode argumentBegins argumentEnds ignoreHoldingTrivia steps
     argument-if what p held there suits =
-        opened-then K sound _ (start! K sound SyntaxKind.ClauseArgument _ (ignore-on K sound p held)) (λ b on. then-if (piece-if what _ on there suits)
-        (λ q on. then-if (finish-if K sound SyntaxKind.ClauseArgument _ q on) (λ q on. goes (nothing-held refl on))))
+        let ignored : At B = holdingNone B (withBuilt B p (dropFrom B source (place B p - p .held) (p .held) (p .built))) in
+        opened-then K sound {p = ignored} _ (last-if (start! K sound SyntaxKind.ClauseArgument ignored (ignore-on K sound p held)))
+        (λ b on. then-if (piece-if what _ on there suits)
+        (λ q on. last-if (then-if (finish-if K sound SyntaxKind.ClauseArgument _ q on) (λ q on. goes (nothing-held refl on)))))
 
     module _ (more : Matcher → Rule B) {n : ℕ} (goesOn : (m : Matcher) (p : At B) → Held K sound n p → IfWent (Held K sound n) (more m p)) where
       chosen-if : (choice : Choice) (m : Matcher) (p : At B) → Held K sound n p → Fits source (p .lexer) choice → IfWent (Held K sound n) (chosen B source i more choice m p)

@@ -16,7 +16,7 @@ use Rattle.rules.specs.Matcher.{Matcher, startMatch, isGreedy, formLeft1
 use Rattle.rules.specs.Outcome.{Out, went, refused, bind, greedyEnvironment, tooManyOpen}
 use Rattle.rules.specs.Position.{Shape, Source, At, place, asked, withLexer, withList, withMarks, holdingNone, leaf, start, startAt, finish, wrap}
 use Rattle.rules.specs.Reading.{items, itemList, itemGroup, piece, argument, chosen, choiceFor, arguments, matchArguments, greedyItems, greedyArgument, greedyCommand, matchedCommand, commandOf, environmentArguments, beginClause, environmentItem, itemLr, script, attachmentAt, attachTo, attachComponent, readItem, contentFor, content, contentAt, parse}
-use Rattle.rules.specs.Routines.{eatAs, eat, eatIf, eatWhile, turns, trivia, singleChar, oneIn, dropFrom, ignoreHoldingTrivia, leavesFrom, extractHoldingTrivia, text, delimiterOf, delimiter, clauseLr, dropNext, eatBodyOfIfs, skippedBody, startAround, orElse, left1Command, argumentNode, endClause, rightClause}
+use Rattle.rules.specs.Routines.{eatAs, eat, eatIf, eatWhile, turns, trivia, singleChar, oneIn, dropFrom, ignoreHoldingTrivia, leavesFrom, extractHoldingTrivia, text, delimiterOf, delimiter, clauseLr, dropNext, eatBodyOfIfs, skippedBody, startAround, orElse, left1Command, argumentBegins, argumentEnds, argumentNode, endClause, rightClause}
 use Rattle.rules.specs.Scope
 use Rattle.rules.specs.Scope.{Scope, stops}
 use Rattle.rules.specs.SyntaxKind
@@ -290,13 +290,13 @@ module _ {A B : Builder} {Skip May : ℕ → Type 0} (Z : Sim A B Skip May) wher
       argumentNode~ : {read : At A → Out (At A)} {read′ : At B → Out (At B)} {top : Level A B} {w : World A B}
           → ((n : Node A B) (live : Marked) → Keeps Skip May (Near Z (n ◂ live ∷ top ∷ w) (Among [])) (Near Z (n ◂ [] ∷ top ∷ w) (Among [])) read read′)
           → Quiet (top ∷ w) (Among []) (argumentNode A source read) (argumentNode B source read′)
-      unfolding argumentNode ignoreHoldingTrivia
+      unfolding argumentNode argumentBegins argumentEnds ignoreHoldingTrivia
       argumentNode~ reads _ _ (near c h m {a} {b} among r) =
           let opened =
           startAs~ SyntaxKind.ClauseArgument {P = Among []} (near c (c .token) m among (dropFrom~ (c .token - h) h r))
           (dropFrom-frame A source (Z .frame-left) (c .token - h) h a)
           (dropFrom-frame B source (Z .frame-right) (c .token - h) h b) in
-          from~ (goes refl refl (opened ▸ reads _ _ ⨾ finish~ ⨾ heldNone~ ⨾ done~))
+          from~ (from~ (goes refl refl (opened ▸ done~)) ▸ reads _ _ ⨾ steps~ (finish~ ⨾ heldNone~ ⨾ done~) ⨾ done~)
 
       argument~ : (what : Piece) {top : Level A B} {w : World A B} → Quiet (top ∷ w) (Among []) (argument A source i what) (argument B source j what)
       unfolding argument

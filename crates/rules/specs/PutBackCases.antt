@@ -35,7 +35,7 @@ wantedBack c (gives tree dropped) = tokenTexts (c .text) (c .tokens)
 wantedBack c (refuses number place) = []
 
 examples : map (λ (c : Case). backOf (tablesOf c) (ran c) (ran c .answer)) cases ≡ map (λ (c : Case). wantedBack c (c .expected)) cases
-unfolding Scope.stops Kinds.isTrivia Kinds.isTextComponent Kinds.leafKind Characters.charLength Characters.characters Characters.isUtf8 Cursor.peek Cursor.restStart Cursor.restLength Cursor.peekText Cursor.consumed Cursor.left Matcher.startMatch Matcher.tryMatch Matcher.matchAsTerm Flat.leafed Flat.leaf Flat.started Flat.start Flat.finished Flat.finish Flat.startAtRow Flat.startedAt Flat.startAt Flat.wrap Position.steps Position.wrap Items.attachable Items.greedyStops Items.choose Routines.eatAs Routines.eat Routines.eatIf Routines.eatWhile Routines.trivia Routines.singleChar Routines.oneIn Routines.dropFrom Routines.ignoreHoldingTrivia Routines.leavesFrom Routines.extractHoldingTrivia Routines.text Routines.delimiter Routines.clauseLr Routines.dropNext Routines.eatBodyOfIfs Routines.skippedBody Routines.startAround Routines.left1Command Routines.argumentNode Routines.endClause Routines.rightClause Reading.items Reading.itemList Reading.itemGroup Reading.piece Reading.argument Reading.arguments Reading.matchArguments Reading.greedyItems Reading.greedyArgument Reading.greedyCommand Reading.matchedCommand Reading.commandOf Reading.environmentArguments Reading.beginClause Reading.environmentItem Reading.itemLr Reading.script Reading.attachmentAt Reading.attachTo Reading.attachComponent Reading.readItem Reading.content Reading.contentAt Reading.parse Checks.firstBad Checks.withinLimits Checks.wordRight Checks.tokenRight Checks.valueRight Checks.shapeRight Checks.stateRight Checks.shapeOrStateRight Checks.checks Checks.shapeOf Run.run
+unfolding Scope.stops Kinds.isTrivia Kinds.isTextComponent Kinds.leafKind Characters.charLength Characters.characters Characters.isUtf8 Cursor.peek Cursor.restStart Cursor.restLength Cursor.peekText Cursor.consumed Cursor.left Matcher.startMatch Matcher.tryMatch Matcher.matchAsTerm Flat.leafed Flat.leaf Flat.started Flat.start Flat.finished Flat.finish Flat.startAtRow Flat.startedAt Flat.startAt Flat.wrap Position.steps Position.wrap Items.attachable Items.greedyStops Items.choose Routines.eatAs Routines.eat Routines.eatIf Routines.eatWhile Routines.trivia Routines.singleChar Routines.oneIn Routines.dropFrom Routines.ignoreHoldingTrivia Routines.leavesFrom Routines.extractHoldingTrivia Routines.text Routines.delimiter Routines.clauseLr Routines.dropNext Routines.eatBodyOfIfs Routines.skippedBody Routines.startAround Routines.left1Command Routines.argumentBegins Routines.argumentEnds Routines.argumentNode Routines.endClause Routines.rightClause Reading.items Reading.itemList Reading.itemGroup Reading.piece Reading.argument Reading.arguments Reading.matchArguments Reading.greedyItems Reading.greedyArgument Reading.greedyCommand Reading.matchedCommand Reading.commandOf Reading.environmentArguments Reading.beginClause Reading.environmentItem Reading.itemLr Reading.script Reading.attachmentAt Reading.attachTo Reading.attachComponent Reading.readItem Reading.content Reading.contentAt Reading.parse Checks.firstBad Checks.withinLimits Checks.wordRight Checks.tokenRight Checks.valueRight Checks.shapeRight Checks.stateRight Checks.shapeOrStateRight Checks.checks Checks.shapeOf Run.run
 examples = refl
 
 -- tokens that overlap and go backwards, in the text `a b`: a command over all of it that takes one argument, the blank, and a Word over all of it
@@ -53,5 +53,5 @@ overlappingRan = run overlapping (replicate 100 7) (replicate 9 7)
 
 -- Root[Cmd[`a b` Arg[`a`]] Text[` b`]], with the blank dropped behind one leaf: `a b`, the blank, `a`, ` b`
 overlaps : _≡_ {A = Answer × List ℕ} (overlappingRan .answer, backOf overlapping overlappingRan (overlappingRan .answer)) (accepted 11 1, 97 ∷ 32 ∷ 98 ∷ 32 ∷ 97 ∷ 32 ∷ 98 ∷ [])
-unfolding Scope.stops Kinds.isTrivia Kinds.isTextComponent Kinds.leafKind Characters.charLength Characters.characters Characters.isUtf8 Cursor.peek Cursor.restStart Cursor.restLength Cursor.peekText Cursor.consumed Cursor.left Matcher.startMatch Matcher.tryMatch Matcher.matchAsTerm Flat.leafed Flat.leaf Flat.started Flat.start Flat.finished Flat.finish Flat.startAtRow Flat.startedAt Flat.startAt Flat.wrap Position.steps Position.wrap Items.attachable Items.greedyStops Items.choose Routines.eatAs Routines.eat Routines.eatIf Routines.eatWhile Routines.trivia Routines.singleChar Routines.oneIn Routines.dropFrom Routines.ignoreHoldingTrivia Routines.leavesFrom Routines.extractHoldingTrivia Routines.text Routines.delimiter Routines.clauseLr Routines.dropNext Routines.eatBodyOfIfs Routines.skippedBody Routines.startAround Routines.left1Command Routines.argumentNode Routines.endClause Routines.rightClause Reading.items Reading.itemList Reading.itemGroup Reading.piece Reading.argument Reading.arguments Reading.matchArguments Reading.greedyItems Reading.greedyArgument Reading.greedyCommand Reading.matchedCommand Reading.commandOf Reading.environmentArguments Reading.beginClause Reading.environmentItem Reading.itemLr Reading.script Reading.attachmentAt Reading.attachTo Reading.attachComponent Reading.readItem Reading.content Reading.contentAt Reading.parse Checks.firstBad Checks.withinLimits Checks.wordRight Checks.tokenRight Checks.valueRight Checks.shapeRight Checks.stateRight Checks.shapeOrStateRight Checks.checks Checks.shapeOf Run.run
+unfolding Scope.stops Kinds.isTrivia Kinds.isTextComponent Kinds.leafKind Characters.charLength Characters.characters Characters.isUtf8 Cursor.peek Cursor.restStart Cursor.restLength Cursor.peekText Cursor.consumed Cursor.left Matcher.startMatch Matcher.tryMatch Matcher.matchAsTerm Flat.leafed Flat.leaf Flat.started Flat.start Flat.finished Flat.finish Flat.startAtRow Flat.startedAt Flat.startAt Flat.wrap Position.steps Position.wrap Items.attachable Items.greedyStops Items.choose Routines.eatAs Routines.eat Routines.eatIf Routines.eatWhile Routines.trivia Routines.singleChar Routines.oneIn Routines.dropFrom Routines.ignoreHoldingTrivia Routines.leavesFrom Routines.extractHoldingTrivia Routines.text Routines.delimiter Routines.clauseLr Routines.dropNext Routines.eatBodyOfIfs Routines.skippedBody Routines.startAround Routines.left1Command Routines.argumentBegins Routines.argumentEnds Routines.argumentNode Routines.endClause Routines.rightClause Reading.items Reading.itemList Reading.itemGroup Reading.piece Reading.argument Reading.arguments Reading.matchArguments Reading.greedyItems Reading.greedyArgument Reading.greedyCommand Reading.matchedCommand Reading.commandOf Reading.environmentArguments Reading.beginClause Reading.environmentItem Reading.itemLr Reading.script Reading.attachmentAt Reading.attachTo Reading.attachComponent Reading.readItem Reading.content Reading.contentAt Reading.parse Checks.firstBad Checks.withinLimits Checks.wordRight Checks.tokenRight Checks.valueRight Checks.shapeRight Checks.stateRight Checks.shapeOrStateRight Checks.checks Checks.shapeOf Run.run
 overlaps = refl

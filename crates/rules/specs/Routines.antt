@@ -148,17 +148,16 @@ module _ (B : Builder) (source : Source) where
       ∷ [])
       p
 
-  -- `arg`: "an accepted argument drops what is held", and has a node of its own around what is read
+  -- `arg`: "an accepted argument drops what is held", and has a node of its own
+  unfoldable pub argumentBegins : Rule B
+  argumentBegins p = steps (ignoreHoldingTrivia ∷ start B SyntaxKind.ClauseArgument ∷ []) p
+
+  unfoldable pub argumentEnds : B .Frame → Rule B
+  argumentEnds parent p = steps (finish B SyntaxKind.ClauseArgument parent ∷ (λ q. went (holdingNone B q)) ∷ []) p
+
+  -- around what is read
   unfoldable pub argumentNode : Rule B → Rule B
-  argumentNode read p =
-      steps
-      (ignoreHoldingTrivia
-      ∷ start B SyntaxKind.ClauseArgument
-      ∷ read
-      ∷ finish B SyntaxKind.ClauseArgument (B .frame (p .built))
-      ∷ (λ q. went (holdingNone B q))
-      ∷ [])
-      p
+  argumentNode read p = steps (argumentBegins ∷ read ∷ argumentEnds (B .frame (p .built)) ∷ []) p
 
   -- the \end, if it is next
   unfoldable pub endClause : Rule B
