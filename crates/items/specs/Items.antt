@@ -26,8 +26,8 @@ itemFor (item.Skipped node) = rules.skipped node
 abbrev pub shapeFor : Shape → position.Shape
 shapeFor s = record { class = s .class; form = s .form; value = s .value }
 
+-- a character of a Word is no case of the code's: Words are split before a piece is chosen
 abbrev pub pieceFor : Piece → rules.Piece
-pieceFor piece.Character = rules.character
 pieceFor (piece.Within scope) = rules.within (scopeOf scope)
 pieceFor piece.Brace = rules.brace
 pieceFor piece.Item = rules.item

@@ -1,6 +1,7 @@
 // What the next argument of a command or a \begin is, and where greedy arguments stop.
 ghost use mathlib.Core.Path.{_≡_};
 ghost use Rattle.rules.specs.Items.{choose, greedyStops, ifMatched, ifTried, isEnvironment};
+ghost use Rattle.rules.specs.Token.{Word as wordKind};
 ghost use Rattle.arg_match.specs.Answers.{matchedOf, matcherOf, triedOf};
 ghost use Rattle.syntax.specs.ParseScope.{scopeOf};
 ghost use Rattle.items.specs.Items.{choiceFor, pieceFor};
@@ -13,8 +14,6 @@ use syntax::Token;
 
 // How an argument is read.
 pub enum Piece {
-    // One character of a Word.
-    Character,
     // A whole group.
     Within(ParseScope),
     // An opening brace alone.
@@ -78,7 +77,9 @@ fn if_matched(scope: ParseScope, matched: Matched) -> Choice
     }
 }
 
+// What follows if a token of this kind is next. A Word's characters are tried one by one before this is asked.
 pub fn choose(states: &[u32], scope: ParseScope, matcher: ArgMatcher, kind: u32) -> Choice
+    requires { ⌜ (kind ≡ wordKind → ⊥) ⌝ }
     ensures { λ r. ⌜ choiceFor r ≡ choose (now (states .entry)) (scopeOf scope) (matcherOf matcher) kind ⌝ }
 {
     if Token::is_trivia(kind) {
@@ -87,7 +88,6 @@ pub fn choose(states: &[u32], scope: ParseScope, matcher: ArgMatcher, kind: u32)
     match kind {
         Token::AMPERSAND => Choice::Ends,
         Token::CARET | Token::UNDERSCORE => Choice::Ends,
-        Token::WORD => if_tried(Piece::Character, matcher.try_match(states, Argument::Term)),
         Token::LEFT_CURLY => if_matched(
             ParseScope::CurlyItem,
             matcher.match_as_term(states, Argument::Term),

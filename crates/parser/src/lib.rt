@@ -1,5 +1,4 @@
 // The cycle of calls: items inside items. Each member comes to what its rule says at every level that is enough for the nodes that may yet be opened.
-mod clauses;
 mod lists;
 mod root;
 
@@ -7,23 +6,17 @@ ghost use mathlib.Core.Bool.{false};
 ghost use Rattle.rules.specs.Checks.{sourceOf};
 ghost use Rattle.rules.specs.Flat.{flat};
 ghost use Rattle.rules.specs.Items.{classCommand};
+ghost use Rattle.rules.specs.Matcher.{startMatch};
 ghost use Rattle.rules.specs.Reading as spec;
 ghost use Rattle.arg_match.specs.Answers.{matcherOf};
 ghost use Rattle.items.specs.Items.{shapeFor, pieceFor};
 ghost use Rattle.routines.specs.Contract.{MarkOk, Ready, Holding};
-ghost use Rattle.routines.specs.Stands.{markOf};
+ghost use Rattle.routines.specs.Stands.{keptOf, optionOf};
 ghost use Rattle.syntax.specs.ParseScope.{scopeOf};
-ghost use Rattle.parser.specs.Member.{given, lent, Opened, Stayed, Next, NextIf, WordIf, gainOf, itemsOf, insideOf, allArguments, greedyCommand, matchedCommand, attachmentAt, shapeIn};
+ghost use Rattle.parser.specs.Member.{given, lent, Opened, Stayed, Next, NextIf, gainOf, itemsOf, insideOf, allArguments, shapeIn};
 use arg_match::ArgMatcher;
 use arg_match::Argument;
 use arg_match::Tried;
-use clauses::character;
-use clauses::end_clause;
-use clauses::left1_command;
-use clauses::right_clause;
-use clauses::start_attach_at;
-use clauses::word_character;
-use clauses::word_next;
 use items::Choice;
 use items::Item;
 use items::Piece;
@@ -45,16 +38,23 @@ pub use root::parse;
 use routines::Mark;
 use routines::Parser;
 use routines::Step;
+use routines::begin_argument;
+use routines::character;
 use routines::clause_lr;
 use routines::eat;
 use routines::eat_if;
+use routines::end_argument;
+use routines::end_clause;
 use routines::extract_holding_trivia;
 use routines::hold_trivia;
-use routines::ignore_holding_trivia;
+use routines::left1_command;
 use routines::one_in;
+use routines::right_clause;
 use routines::skipped_body;
-use routines::start_command_at;
+use routines::start_around;
 use routines::trivia;
+use routines::word_character;
+use routines::word_next;
 use syntax::Class;
 use syntax::Form;
 use syntax::Limits;
@@ -80,11 +80,11 @@ fn items(
     let mut now = p;
     let mut first = true;
     while more_items(tokens, now, extent, first) {
-        let r = content(text, tokens, shapes, states, tree, dropped, now);
-        let Step::Went(q) = r else {
-            return r.again();
+        let read = content(text, tokens, shapes, states, tree, dropped, now);
+        let Step::Went(after) = read else {
+            return read.again();
         };
-        now = behind(tokens, shapes, now, q, extent);
+        now = behind(tokens, shapes, now, after, extent);
         first = false;
     }
     Step::Went(now)
@@ -104,16 +104,16 @@ fn inside(
     requires { let t = given text tokens shapes states in ⌜ Ready t p (lent tree dropped) × NextIf extent t p ⌝ }
     ensures { λ r. ⌜ Stayed text tokens shapes states tree dropped p r (gainOf extent) (λ t. insideOf t extent) ⌝ }
 {
-    let a = opened(p, extent);
-    let r = items(text, tokens, shapes, states, tree, dropped, a, extent);
-    let Step::Went(q) = r else {
-        return r;
+    let begun = opened(p, extent);
+    let listed = items(text, tokens, shapes, states, tree, dropped, begun, extent);
+    let Step::Went(read) = listed else {
+        return listed;
     };
-    Step::Went(closed(p, q, extent))
+    Step::Went(closed(p, read, extent))
 }
 
 // A group between its braces.
-//   {a}   Curly[{ Text[a] }]
+//  {a}   Curly[{ Text[a] }]
 fn item_group(
     text: &[u8],
     tokens: &[u32],
@@ -127,32 +127,32 @@ fn item_group(
     requires { let t = given text tokens shapes states in ⌜ Ready t p (lent tree dropped) × Next t p ⌝ }
     ensures { λ r. ⌜ Opened text tokens shapes states tree dropped p r 1 (λ t n inner. spec.itemGroup (flat n) (sourceOf t) inner (scopeOf scope)) ⌝ }
 {
-    let r = p.start_node(tree, group_kind(scope));
-    let Step::Went(a) = r else {
-        return r;
+    let opened = p.start_node(tree, group_kind(scope));
+    let Step::Went(begun) = opened else {
+        return opened;
     };
-    let q = eat(tokens, tree, a);
-    let Step::Went(b) = q else {
-        return q;
+    let eaten = eat(tokens, tree, begun);
+    let Step::Went(entered) = eaten else {
+        return eaten;
     };
-    let o = inside(
+    let listed = inside(
         text,
         tokens,
         shapes,
         states,
         tree,
         dropped,
-        b,
+        entered,
         Extent::List(scope),
     );
-    let Step::Went(c) = o else {
-        return o;
+    let Step::Went(read) = listed else {
+        return listed;
     };
-    let n = eat_if(tokens, tree, c, closer(scope));
-    let Step::Went(d) = n else {
-        return n;
+    let shut = eat_if(tokens, tree, read, closer(scope));
+    let Step::Went(ended) = shut else {
+        return shut;
     };
-    d.finish_node(tree, group_kind(scope), p.builder.frame())
+    ended.finish_node(tree, group_kind(scope), p.builder.frame())
 }
 
 // How an argument is read, inside its node.
@@ -166,19 +166,18 @@ fn piece(
     p: Parser,
     what: Piece,
 ) -> Step
-    requires { let t = given text tokens shapes states in ⌜ Ready t p (lent tree dropped) × Next t p × WordIf what t p ⌝ }
+    requires { let t = given text tokens shapes states in ⌜ Ready t p (lent tree dropped) × Next t p ⌝ }
     ensures { λ r. ⌜ Stayed text tokens shapes states tree dropped p r 1 (λ t n inner. spec.piece (flat n) (sourceOf t) inner (pieceFor what)) ⌝ }
 {
     match what {
-        Piece::Character => word_character(text, tokens, tree, p),
         Piece::Within(scope) => item_group(text, tokens, shapes, states, tree, dropped, p, scope),
         Piece::Brace => eat(tokens, tree, p),
         Piece::Item => inside(text, tokens, shapes, states, tree, dropped, p, Extent::Item),
     }
 }
 
-// An accepted argument: what is held is dropped, and it has a node of its own.
-fn argument(
+// An accepted argument, in a node of its own.
+fn arg(
     text: &[u8],
     tokens: &[u32],
     shapes: &[u32],
@@ -188,23 +187,18 @@ fn argument(
     p: Parser,
     what: Piece,
 ) -> Step
-    requires { let t = given text tokens shapes states in ⌜ Ready t p (lent tree dropped) × Next t p × Holding p × WordIf what t p ⌝ }
+    requires { let t = given text tokens shapes states in ⌜ Ready t p (lent tree dropped) × Next t p × Holding p ⌝ }
     ensures { λ r. ⌜ Opened text tokens shapes states tree dropped p r 1 (λ t n inner. spec.argument (flat n) (sourceOf t) inner (pieceFor what)) ⌝ }
 {
-    let a = ignore_holding_trivia(dropped, p);
-    let r = a.start_node(tree, SyntaxKind::CLAUSE_ARGUMENT);
-    let Step::Went(b) = r else {
-        return r.again();
+    let opened = begin_argument(tree, dropped, p);
+    let Step::Went(begun) = opened else {
+        return opened;
     };
-    let q = piece(text, tokens, shapes, states, tree, dropped, b, what);
-    let Step::Went(c) = q else {
-        return q.again();
+    let taken = piece(text, tokens, shapes, states, tree, dropped, begun, what);
+    let Step::Went(read) = taken else {
+        return taken;
     };
-    let o = c.finish_node(tree, SyntaxKind::CLAUSE_ARGUMENT, p.builder.frame());
-    let Step::Went(d) = o else {
-        return o.again();
-    };
-    Step::Went(d.holding_none())
+    end_argument(tree, read, p.builder.frame())
 }
 
 // Arguments, until the matcher or the kind of token ends them. A refused character ends both loops.
@@ -237,18 +231,16 @@ fn arguments(
                     break 'arguments;
                 };
                 let size = char_len(word);
-                let r = character(tokens, tree, dropped, now, word);
-                let Step::Went(q) = r else {
-                    return r.again();
+                let taken = character(tokens, tree, dropped, now, word);
+                let Step::Went(after) = taken else {
+                    return taken.again();
                 };
-                now = q;
+                now = after;
                 matcher = next;
                 word = &word[size..];
             }
         } else {
-            let list = now.list;
-            let scope = ParseScope::numbered(list.scope);
-            let choice = choose(states, scope, matcher, kind);
+            let choice = choose(states, now.scope(), matcher, kind);
             match choice {
                 Choice::Ends => {
                     break;
@@ -257,11 +249,11 @@ fn arguments(
                     now = hold_trivia(now);
                 }
                 Choice::Takes(what, next) => {
-                    let o = argument(text, tokens, shapes, states, tree, dropped, now, what);
-                    let Step::Went(q) = o else {
-                        return o.again();
+                    let read = arg(text, tokens, shapes, states, tree, dropped, now, what);
+                    let Step::Went(after) = read else {
+                        return read.again();
                     };
-                    now = q;
+                    now = after;
                     matcher = next;
                 }
             }
@@ -270,183 +262,9 @@ fn arguments(
     Step::Went(now)
 }
 
+// The arguments that a shape asks for. The Rust asserts here that they aren't greedy; a \begin whose shape is gets refusal 5, and no such command comes here.
 // Last is cleared first and saved second, so it is empty afterwards.
 fn match_arguments(
-    text: &[u8],
-    tokens: &[u32],
-    shapes: &[u32],
-    states: &[u32],
-    tree: &mut [u32],
-    dropped: &mut [u32],
-    p: Parser,
-    m: ArgMatcher,
-) -> Step
-    requires { let t = given text tokens shapes states in ⌜ Ready t p (lent tree dropped) ⌝ }
-    ensures { λ r. ⌜ Opened text tokens shapes states tree dropped p r 0 (λ t n inner. spec.matchArguments (flat n) (sourceOf t) inner (matcherOf m)) ⌝ }
-{
-    let list = p.list;
-    let start = list.start;
-    let cleared = p.with_marks(Mark::nothing(), Mark::nothing());
-    let inner = cleared.list;
-    let last = inner.last;
-    let a = cleared.holding_none();
-    let r = arguments(text, tokens, shapes, states, tree, dropped, a, m);
-    let Step::Went(q) = r else {
-        return r.again();
-    };
-    Step::Went(q.with_marks(start, last))
-}
-
-// All that a greedy command takes, in one node.
-fn greedy_rest(
-    text: &[u8],
-    tokens: &[u32],
-    shapes: &[u32],
-    states: &[u32],
-    tree: &mut [u32],
-    dropped: &mut [u32],
-    p: Parser,
-) -> Step
-    requires { let t = given text tokens shapes states in ⌜ Ready t p (lent tree dropped) ⌝ }
-    ensures { λ r. ⌜ Opened text tokens shapes states tree dropped p r 0 (λ t n inner. spec.greedyArgument (flat n) (sourceOf t) inner) ⌝ }
-{
-    let r = p.start_node(tree, SyntaxKind::CLAUSE_ARGUMENT);
-    let Step::Went(a) = r else {
-        return r;
-    };
-    let q = inside(
-        text,
-        tokens,
-        shapes,
-        states,
-        tree,
-        dropped,
-        a,
-        Extent::Greedy,
-    );
-    let Step::Went(b) = q else {
-        return q;
-    };
-    b.finish_node(tree, SyntaxKind::CLAUSE_ARGUMENT, p.builder.frame())
-}
-
-// A greedy command, around what stands from a mark on if there is one.
-//   a\o b   Cmd[Arg[Text a] \o Arg[..]]
-fn greedy_command(
-    text: &[u8],
-    tokens: &[u32],
-    shapes: &[u32],
-    states: &[u32],
-    tree: &mut [u32],
-    dropped: &mut [u32],
-    p: Parser,
-    at: Mark,
-) -> Step
-    requires { let t = given text tokens shapes states in ⌜ Ready t p (lent tree dropped) × Next t p × MarkOk at (p .builder) ⌝ }
-    ensures { λ r. ⌜ Opened text tokens shapes states tree dropped p r 1 (λ t. greedyCommand t (markOf at)) ⌝ }
-{
-    let r = start_command_at(tree, p, at);
-    let Step::Went(a) = r else {
-        return r;
-    };
-    let q = eat(tokens, tree, a);
-    let Step::Went(b) = q else {
-        return q;
-    };
-    let o = greedy_rest(text, tokens, shapes, states, tree, dropped, b);
-    let Step::Went(c) = o else {
-        return o;
-    };
-    c.finish_node(tree, SyntaxKind::ITEM_CMD, p.builder.frame())
-}
-
-// A command whose arguments a matcher takes; what is left held follows its node.
-//   \f12   Cmd[\f Arg[1] Arg[2]]
-fn matched(
-    text: &[u8],
-    tokens: &[u32],
-    shapes: &[u32],
-    states: &[u32],
-    tree: &mut [u32],
-    dropped: &mut [u32],
-    p: Parser,
-    m: ArgMatcher,
-) -> Step
-    requires { let t = given text tokens shapes states in ⌜ Ready t p (lent tree dropped) × Next t p ⌝ }
-    ensures { λ r. ⌜ Opened text tokens shapes states tree dropped p r 1 (λ t. matchedCommand t (matcherOf m)) ⌝ }
-{
-    let r = p.start_node(tree, SyntaxKind::ITEM_CMD);
-    let Step::Went(a) = r else {
-        return r.again();
-    };
-    let q = eat(tokens, tree, a);
-    let Step::Went(b) = q else {
-        return q.again();
-    };
-    let o = match_arguments(text, tokens, shapes, states, tree, dropped, b, m);
-    let Step::Went(c) = o else {
-        return o.again();
-    };
-    let n = c.finish_node(tree, SyntaxKind::ITEM_CMD, p.builder.frame());
-    let Step::Went(d) = n else {
-        return n.again();
-    };
-    extract_holding_trivia(tokens, tree, d).again()
-}
-
-// A command by its shape.
-fn command(
-    text: &[u8],
-    tokens: &[u32],
-    shapes: &[u32],
-    states: &[u32],
-    tree: &mut [u32],
-    dropped: &mut [u32],
-    p: Parser,
-) -> Step
-    requires { let t = given text tokens shapes states in ⌜ Ready t p (lent tree dropped) × Next t p ⌝ }
-    ensures { λ r. ⌜ Opened text tokens shapes states tree dropped p r 1 (λ t n inner. spec.commandOf (flat n) (sourceOf t) inner (shapeIn t classCommand p)) ⌝ }
-{
-    let shape = Shape::of_token(tokens, shapes, p.lexer.token).of_class(Class::COMMAND);
-    if shape.name_only() {
-        return one_in(tokens, tree, p, SyntaxKind::ITEM_CMD);
-    }
-    let list = p.list;
-    let start = list.start;
-    let last = list.last;
-    if shape.form == Form::LEFT1 {
-        return left1_command(tokens, tree, p);
-    }
-    if shape.form == Form::INFIX_GREEDY {
-        return greedy_command(
-            text,
-            tokens,
-            shapes,
-            states,
-            tree,
-            dropped,
-            p.with_marks(Mark::nothing(), last),
-            start,
-        );
-    }
-    let matcher = shape.matcher();
-    if matcher.is_greedy() {
-        return greedy_command(
-            text,
-            tokens,
-            shapes,
-            states,
-            tree,
-            dropped,
-            p,
-            Mark::nothing(),
-        );
-    }
-    matched(text, tokens, shapes, states, tree, dropped, p, matcher)
-}
-
-// The arguments of a \begin.
-fn begin_arguments(
     text: &[u8],
     tokens: &[u32],
     shapes: &[u32],
@@ -466,7 +284,146 @@ fn begin_arguments(
     if matcher.is_greedy() {
         return Step::Refused(Refusal::GREEDY_ENVIRONMENT, p.lexer.token);
     }
-    match_arguments(text, tokens, shapes, states, tree, dropped, p, matcher)
+    let start = p.list_start();
+    let cleared = p.with_marks(Mark::Nothing, Mark::Nothing);
+    let last = cleared.list_last();
+    let free = cleared.holding_none();
+    let read = arguments(text, tokens, shapes, states, tree, dropped, free, matcher);
+    let Step::Went(after) = read else {
+        return read.again();
+    };
+    Step::Went(after.with_marks(start, last))
+}
+
+// A greedy command, around what stands from a mark on if there is one; all that it takes stands in one node.
+//  a\o b   Cmd[Arg[Text a] \o Arg[..]]
+fn greedy_command(
+    text: &[u8],
+    tokens: &[u32],
+    shapes: &[u32],
+    states: &[u32],
+    tree: &mut [u32],
+    dropped: &mut [u32],
+    p: Parser,
+    at: Mark,
+) -> Step
+    requires { let t = given text tokens shapes states in ⌜ Ready t p (lent tree dropped) × Next t p × MarkOk (keptOf at) (p .builder) ⌝ }
+    ensures { λ r. ⌜ Opened text tokens shapes states tree dropped p r 1 (λ t n inner. spec.greedyCommand (flat n) (sourceOf t) inner (optionOf at)) ⌝ }
+{
+    let opened = start_around(tree, p, SyntaxKind::ITEM_CMD, at);
+    let Step::Went(begun) = opened else {
+        return opened;
+    };
+    let eaten = eat(tokens, tree, begun);
+    let Step::Went(named) = eaten else {
+        return eaten;
+    };
+    let inner = named.start_node(tree, SyntaxKind::CLAUSE_ARGUMENT);
+    let Step::Went(entered) = inner else {
+        return inner;
+    };
+    let listed = inside(
+        text,
+        tokens,
+        shapes,
+        states,
+        tree,
+        dropped,
+        entered,
+        Extent::Greedy,
+    );
+    let Step::Went(read) = listed else {
+        return listed;
+    };
+    let ended = read.finish_node(tree, SyntaxKind::CLAUSE_ARGUMENT, named.builder.frame());
+    let Step::Went(taken) = ended else {
+        return ended;
+    };
+    taken.finish_node(tree, SyntaxKind::ITEM_CMD, p.builder.frame())
+}
+
+// A command whose arguments a matcher takes; what is left held follows its node.
+//  \f12   Cmd[\f Arg[1] Arg[2]]
+fn matched(
+    text: &[u8],
+    tokens: &[u32],
+    shapes: &[u32],
+    states: &[u32],
+    tree: &mut [u32],
+    dropped: &mut [u32],
+    p: Parser,
+    shape: Shape,
+) -> Step
+    requires { let t = given text tokens shapes states in ⌜ Ready t p (lent tree dropped) × Next t p × Matches shape ⌝ }
+    ensures { λ r. ⌜ Opened text tokens shapes states tree dropped p r 1 (λ t n inner. spec.matchedCommand (flat n) (sourceOf t) inner (startMatch (shape .form) (shape .value))) ⌝ }
+{
+    let opened = p.start_node(tree, SyntaxKind::ITEM_CMD);
+    let Step::Went(begun) = opened else {
+        return opened;
+    };
+    let eaten = eat(tokens, tree, begun);
+    let Step::Went(named) = eaten else {
+        return eaten;
+    };
+    let taken = match_arguments(text, tokens, shapes, states, tree, dropped, named, shape);
+    let Step::Went(read) = taken else {
+        return taken;
+    };
+    let ended = read.finish_node(tree, SyntaxKind::ITEM_CMD, p.builder.frame());
+    let Step::Went(closed) = ended else {
+        return ended;
+    };
+    extract_holding_trivia(tokens, tree, closed)
+}
+
+// A command by its shape.
+fn command(
+    text: &[u8],
+    tokens: &[u32],
+    shapes: &[u32],
+    states: &[u32],
+    tree: &mut [u32],
+    dropped: &mut [u32],
+    p: Parser,
+) -> Step
+    requires { let t = given text tokens shapes states in ⌜ Ready t p (lent tree dropped) × Next t p ⌝ }
+    ensures { λ r. ⌜ Opened text tokens shapes states tree dropped p r 1 (λ t n inner. spec.commandOf (flat n) (sourceOf t) inner (shapeIn t classCommand p)) ⌝ }
+{
+    let shape = Shape::of_token(tokens, shapes, p.lexer.token).of_class(Class::COMMAND);
+    if shape.name_only() {
+        return one_in(tokens, tree, p, SyntaxKind::ITEM_CMD);
+    }
+    if shape.form == Form::LEFT1 {
+        return left1_command(tokens, tree, p);
+    }
+    if shape.form == Form::INFIX_GREEDY {
+        let start = p.list_start();
+        let startless = p.with_marks(Mark::Nothing, p.list_last());
+        return greedy_command(
+            text,
+            tokens,
+            shapes,
+            states,
+            tree,
+            dropped,
+            startless,
+            start,
+        );
+    }
+    let matcher = shape.matcher();
+    if matcher.is_greedy() {
+        return greedy_command(
+            text,
+            tokens,
+            shapes,
+            states,
+            tree,
+            dropped,
+            p,
+            Mark::Nothing,
+        );
+    }
+    matched(text, tokens, shapes, states, tree, dropped, p, shape)
 }
 
 // An environment's name and its arguments.
@@ -483,27 +440,27 @@ fn begin(
     ensures { λ r. ⌜ Opened text tokens shapes states tree dropped p r 1 (λ t n inner. spec.beginClause (flat n) (sourceOf t) inner) ⌝ }
 {
     let shape = Shape::of_token(tokens, shapes, p.lexer.token).of_class(Class::ENVIRONMENT);
-    let r = p.start_node(tree, SyntaxKind::ITEM_BEGIN);
-    let Step::Went(a) = r else {
-        return r;
+    let opened = p.start_node(tree, SyntaxKind::ITEM_BEGIN);
+    let Step::Went(begun) = opened else {
+        return opened;
     };
-    let q = eat(tokens, tree, a);
-    let Step::Went(b) = q else {
-        return q;
+    let eaten = eat(tokens, tree, begun);
+    let Step::Went(named) = eaten else {
+        return eaten;
     };
-    let o = begin_arguments(text, tokens, shapes, states, tree, dropped, b, shape);
-    let Step::Went(c) = o else {
-        return o;
+    let taken = match_arguments(text, tokens, shapes, states, tree, dropped, named, shape);
+    let Step::Went(read) = taken else {
+        return taken;
     };
-    let n = c.finish_node(tree, SyntaxKind::ITEM_BEGIN, p.builder.frame());
-    let Step::Went(d) = n else {
-        return n;
+    let ended = read.finish_node(tree, SyntaxKind::ITEM_BEGIN, p.builder.frame());
+    let Step::Went(closed) = ended else {
+        return ended;
     };
-    extract_holding_trivia(tokens, tree, d).again()
+    extract_holding_trivia(tokens, tree, closed)
 }
 
 // An environment: its \begin, its body, its \end.
-//   \begin{m}a\end{m}   Env[Begin[m] Text[a] End[m]]
+//  \begin{m}a\end{m}   Env[Begin[m] Text[a] End[m]]
 fn environment(
     text: &[u8],
     tokens: &[u32],
@@ -516,36 +473,36 @@ fn environment(
     requires { let t = given text tokens shapes states in ⌜ Ready t p (lent tree dropped) × Next t p ⌝ }
     ensures { λ r. ⌜ Opened text tokens shapes states tree dropped p r 1 (λ t n inner. spec.environmentItem (flat n) (sourceOf t) inner) ⌝ }
 {
-    let r = p.start_node(tree, SyntaxKind::ITEM_ENV);
-    let Step::Went(a) = r else {
-        return r;
+    let opened = p.start_node(tree, SyntaxKind::ITEM_ENV);
+    let Step::Went(begun) = opened else {
+        return opened;
     };
-    let q = begin(text, tokens, shapes, states, tree, dropped, a);
-    let Step::Went(b) = q else {
-        return q;
+    let named = begin(text, tokens, shapes, states, tree, dropped, begun);
+    let Step::Went(entered) = named else {
+        return named;
     };
-    let o = inside(
+    let listed = inside(
         text,
         tokens,
         shapes,
         states,
         tree,
         dropped,
-        b,
+        entered,
         Extent::List(ParseScope::Environment),
     );
-    let Step::Went(c) = o else {
-        return o;
+    let Step::Went(read) = listed else {
+        return listed;
     };
-    let n = end_clause(tokens, tree, c);
-    let Step::Went(d) = n else {
-        return n;
+    let shut = end_clause(tokens, tree, read);
+    let Step::Went(ended) = shut else {
+        return shut;
     };
-    d.finish_node(tree, SyntaxKind::ITEM_ENV, p.builder.frame())
+    ended.finish_node(tree, SyntaxKind::ITEM_ENV, p.builder.frame())
 }
 
 // A body between its delimiters.
-//   \left(a\right)   LR[ClauseLR[\left (] Text[a] ClauseLR[\right )]]
+//  \left(a\right)   LR[ClauseLR[\left (] Text[a] ClauseLR[\right )]]
 fn item_lr(
     text: &[u8],
     tokens: &[u32],
@@ -558,32 +515,32 @@ fn item_lr(
     requires { let t = given text tokens shapes states in ⌜ Ready t p (lent tree dropped) × Next t p ⌝ }
     ensures { λ r. ⌜ Opened text tokens shapes states tree dropped p r 1 (λ t n inner. spec.itemLr (flat n) (sourceOf t) inner) ⌝ }
 {
-    let r = p.start_node(tree, SyntaxKind::ITEM_LR);
-    let Step::Went(a) = r else {
-        return r;
+    let opened = p.start_node(tree, SyntaxKind::ITEM_LR);
+    let Step::Went(begun) = opened else {
+        return opened;
     };
-    let q = clause_lr(text, tokens, tree, a);
-    let Step::Went(b) = q else {
-        return q;
+    let delimited = clause_lr(text, tokens, tree, begun);
+    let Step::Went(entered) = delimited else {
+        return delimited;
     };
-    let o = inside(
+    let listed = inside(
         text,
         tokens,
         shapes,
         states,
         tree,
         dropped,
-        b,
+        entered,
         Extent::List(ParseScope::LR),
     );
-    let Step::Went(c) = o else {
-        return o;
+    let Step::Went(read) = listed else {
+        return listed;
     };
-    let n = right_clause(text, tokens, tree, c);
-    let Step::Went(d) = n else {
-        return n;
+    let shut = right_clause(text, tokens, tree, read);
+    let Step::Went(ended) = shut else {
+        return shut;
     };
-    d.finish_node(tree, SyntaxKind::ITEM_LR, p.builder.frame())
+    ended.finish_node(tree, SyntaxKind::ITEM_LR, p.builder.frame())
 }
 
 // What follows `_` or `^`. The scope is not asked, so a `}` is a script too.
@@ -607,51 +564,30 @@ fn script(
     if word_next(tokens, p) {
         return word_character(text, tokens, tree, p);
     }
-    let r = trivia(tokens, tree, p);
-    let Step::Went(a) = r else {
-        return r.again();
+    let passed = trivia(tokens, tree, p);
+    let Step::Went(after) = passed else {
+        return passed.again();
     };
-    if tokens.len() / Limits::TOKEN_WIDTH <= a.lexer.token {
-        return Step::Went(a);
+    if tokens.len() / Limits::TOKEN_WIDTH <= after.lexer.token {
+        return Step::Went(after);
     }
-    if word_next(tokens, a) {
-        return word_character(text, tokens, tree, a).again();
+    if word_next(tokens, after) {
+        return word_character(text, tokens, tree, after).again();
     }
-    inside(text, tokens, shapes, states, tree, dropped, a, Extent::Item).again()
+    inside(
+        text,
+        tokens,
+        shapes,
+        states,
+        tree,
+        dropped,
+        after,
+        Extent::Item,
+    ).again()
 }
 
-// A script or an apostrophe, around what stands from a mark on if there is one.
-//   a_b   Attach[Arg[Text a] _ b]
-fn attachment(
-    text: &[u8],
-    tokens: &[u32],
-    shapes: &[u32],
-    states: &[u32],
-    tree: &mut [u32],
-    dropped: &mut [u32],
-    p: Parser,
-    has_script: bool,
-    at: Mark,
-) -> Step
-    requires { let t = given text tokens shapes states in ⌜ Ready t p (lent tree dropped) × Next t p × MarkOk at (p .builder) ⌝ }
-    ensures { λ r. ⌜ Opened text tokens shapes states tree dropped p r 1 (λ t n inner. attachmentAt t «has_script» (markOf at) n inner) ⌝ }
-{
-    let r = start_attach_at(tree, p, at);
-    let Step::Went(a) = r else {
-        return r;
-    };
-    let q = eat(tokens, tree, a);
-    let Step::Went(b) = q else {
-        return q;
-    };
-    let o = script(text, tokens, shapes, states, tree, dropped, b, has_script);
-    let Step::Went(c) = o else {
-        return o;
-    };
-    c.finish_node(tree, SyntaxKind::ITEM_ATTACH_COMPONENT, p.builder.frame())
-}
-
-// Without a last mark `'` is a plain leaf, and `_b` is Attach[_ b].
+// A script or an apostrophe, around what stands from last on. Without a last mark `'` is a plain leaf, and `_b` is Attach[_ b].
+//  a_b   Attach[Arg[Text a] _ b]
 fn attach_component(
     text: &[u8],
     tokens: &[u32],
@@ -665,27 +601,37 @@ fn attach_component(
     requires { let t = given text tokens shapes states in ⌜ Ready t p (lent tree dropped) × Next t p ⌝ }
     ensures { λ r. ⌜ Opened text tokens shapes states tree dropped p r 1 (λ t n inner. spec.attachComponent (flat n) (sourceOf t) inner «has_script») ⌝ }
 {
-    let list = p.list;
-    let last = list.last;
+    let last = p.list_last();
     if !has_script {
         if last.is_nothing() {
             return eat(tokens, tree, p);
         }
     }
-    attachment(
+    let opened = start_around(tree, p, SyntaxKind::ITEM_ATTACH_COMPONENT, last);
+    let Step::Went(begun) = opened else {
+        return opened;
+    };
+    let eaten = eat(tokens, tree, begun);
+    let Step::Went(marked) = eaten else {
+        return eaten;
+    };
+    let scripted = script(
         text,
         tokens,
         shapes,
         states,
         tree,
         dropped,
-        p,
+        marked,
         has_script,
-        last,
-    )
+    );
+    let Step::Went(read) = scripted else {
+        return scripted;
+    };
+    read.finish_node(tree, SyntaxKind::ITEM_ATTACH_COMPONENT, p.builder.frame())
 }
 
-// Any item, whole. A group is handed a copy of the state, so that the state itself need not lie in memory.
+// Any item, whole.
 fn content(
     text: &[u8],
     tokens: &[u32],

@@ -16,7 +16,6 @@ use items::greedy_stops;
 use lexer::Column;
 use lexer::Peeked;
 use lexer::cell;
-use routines::ListState;
 use routines::Mark;
 use routines::Parser;
 use syntax::ParseScope;
@@ -37,8 +36,7 @@ fn goes_on(tokens: &[u32], p: Parser, greedy: bool) -> bool
     let Peeked::Kind(kind) = peeked else {
         return false;
     };
-    let list = p.list;
-    let scope = ParseScope::numbered(list.scope);
+    let scope = p.scope();
     if greedy {
         return !greedy_stops(scope, kind);
     }
@@ -56,26 +54,13 @@ pub fn more_items(tokens: &[u32], p: Parser, extent: Extent, first: bool) -> boo
     }
 }
 
-// A list of a scope that begins here.
-fn new_list(p: Parser, scope: usize) -> Parser
-    ensures { λ r. ⌜ r ≡ relisted p (listed scope p) ⌝ }
-{
-    p.with_list(ListState {
-        scope,
-        start: Mark::at(p.builder.checkpoint()),
-        last: Mark::nothing(),
-    })
-}
-
 // What the first item is read in: a new list, or the same scope with a start mark here.
 pub fn opened(p: Parser, extent: Extent) -> Parser
     ensures { λ r. ⌜ r ≡ opened extent p ⌝ }
 {
-    let list = p.list;
-    let same = list.scope;
     match extent {
-        Extent::List(scope) => new_list(p, scope.number()),
-        Extent::Greedy => new_list(p, same),
+        Extent::List(scope) => p.with_scope(scope, p.checkpoint(), Mark::Nothing),
+        Extent::Greedy => p.with_marks(p.checkpoint(), Mark::Nothing),
         Extent::Item => p,
     }
 }
@@ -85,10 +70,9 @@ pub fn closed(p: Parser, q: Parser, extent: Extent) -> Parser
     ensures { λ r. ⌜ r ≡ closed extent p q ⌝ }
 {
     let list = p.list;
-    let start = list.start;
     match extent {
         Extent::List(_) => q.with_list(list),
-        Extent::Greedy => q.with_marks(start, Mark::nothing()),
+        Extent::Greedy => q.with_marks(p.list_start(), Mark::Nothing),
         Extent::Item => q,
     }
 }
@@ -101,9 +85,7 @@ fn last_after(tokens: &[u32], shapes: &[u32], p: Parser, q: Parser) -> Parser
     let token = p.lexer.token;
     let shape = Shape::of_token(tokens, shapes, token);
     if attachable(cell(tokens, token, Column::KIND), shape) {
-        let list = q.list;
-        let start = list.start;
-        return q.with_marks(start, Mark::at(p.builder.checkpoint()));
+        return q.with_last(p.checkpoint());
     }
     q
 }

@@ -7,7 +7,6 @@ use crate::lists::Extent;
 use builder::GreenNodeBuilder;
 use lexer::Lexer;
 use routines::ListState;
-use routines::Mark;
 use routines::Parser;
 use routines::Step;
 use syntax::ParseScope;
@@ -20,11 +19,7 @@ fn at_start() -> Parser
     Parser {
         lexer: Lexer::new(),
         held: 0,
-        list: ListState {
-            scope: ParseScope::Root.number(),
-            start: Mark::nothing(),
-            last: Mark::nothing(),
-        },
+        list: ListState::new(ParseScope::Root),
         builder: GreenNodeBuilder::new(),
         dropped: 0,
     }
@@ -43,22 +38,22 @@ pub fn parse(
     ensures { λ r. ⌜ Parsed (tables (now (text .entry)) (now (tokens .entry)) (now (shapes .entry)) (now (states .entry))) (buffers (now (tree .entry)) (now (dropped .entry))) r (buffers (now (tree .exit)) (now (dropped .exit))) ⌝ }
 {
     let p = at_start();
-    let r = p.start_node(tree, SyntaxKind::SCOPE_ROOT);
-    let Step::Went(a) = r else {
-        return r;
+    let opened = p.start_node(tree, SyntaxKind::SCOPE_ROOT);
+    let Step::Went(begun) = opened else {
+        return opened;
     };
-    let q = inside(
+    let listed = inside(
         text,
         tokens,
         shapes,
         states,
         tree,
         dropped,
-        a,
+        begun,
         Extent::List(ParseScope::Root),
     );
-    let Step::Went(b) = q else {
-        return q;
+    let Step::Went(read) = listed else {
+        return listed;
     };
-    b.finish_node(tree, SyntaxKind::SCOPE_ROOT, p.builder.frame())
+    read.finish_node(tree, SyntaxKind::SCOPE_ROOT, p.builder.frame())
 }

@@ -1,17 +1,25 @@
 // The parser's state by value, and the routines of parser.rs that read no item inside another.
-mod bodies;
+mod argument;
+mod clauses;
 mod held;
 mod skipped;
 mod state;
 mod tokens;
 
-pub use bodies::clause_lr;
-pub use bodies::start_command_at;
-pub use bodies::text;
+pub use argument::begin_argument;
+pub use argument::character;
+pub use argument::end_argument;
+pub use clauses::clause_lr;
+pub use clauses::end_clause;
+pub use clauses::left1_command;
+pub use clauses::right_clause;
+pub use clauses::start_around;
+pub use clauses::text;
 pub use held::extract_holding_trivia;
 pub use held::hold_trivia;
 pub use held::ignore_holding_trivia;
 pub use skipped::skipped_body;
+pub use state::KeptMark;
 pub use state::ListState;
 pub use state::Mark;
 pub use state::Parser;
@@ -21,3 +29,5 @@ pub use tokens::eat_if;
 pub use tokens::one_in;
 pub use tokens::single_char;
 pub use tokens::trivia;
+pub use tokens::word_character;
+pub use tokens::word_next;

@@ -85,6 +85,19 @@ pub struct ListState {
     pub last: KeptMark,
 }
 
+impl ListState {
+    // A list of a scope, with no mark yet.
+    pub fn new(scope: ParseScope) -> Self
+        ensures { λ r. ⌜ r ≡ listAt scope ⌝ }
+    {
+        Self {
+            scope: scope.number(),
+            start: Mark::Nothing.kept(),
+            last: Mark::Nothing.kept(),
+        }
+    }
+}
+
 // What is read, the first held token, the list that is read, the builder's numbers, and how many rows are dropped.
 pub struct Parser {
     pub lexer: Lexer,
@@ -148,6 +161,19 @@ impl Parser {
         self.with_list(ListState {
             scope: list.scope,
             start: start.kept(),
+            last: last.kept(),
+        })
+    }
+
+    // The same list, with this last mark.
+    pub fn with_last(self, last: Mark) -> Self
+        ensures { λ r. ⌜ r ≡ remarked self (self .list .start) (keptOf last) ⌝ }
+    {
+        let list = self.list;
+        let start = list.start;
+        self.with_list(ListState {
+            scope: list.scope,
+            start,
             last: last.kept(),
         })
     }

@@ -1,7 +1,8 @@
-// Tokens become leaves: `eat`, `eat_as`, `eat_if`, `trivia`, `single_char`.
+// Tokens become leaves: `eat`, `eat_as`, `eat_if`, `trivia`, `single_char`, and a node with one token in it.
 ghost use mathlib.Core.Path.{_≡_};
 ghost use mathlib.Core.List.{List};
 ghost use Prim.Native.Nat.{ℕ, _<_};
+ghost use lib.Dec.{eqb};
 ghost use Rattle.rules.specs.Flat.{flat};
 ghost use Rattle.rules.specs.Cursor.{peek, peekText};
 ghost use Rattle.rules.specs.Kinds.{isTrivia};
@@ -94,6 +95,25 @@ pub fn single_char(tokens: &[u32], tree: &mut [u32], p: Parser, word: &[u8]) -> 
         return r;
     };
     Step::Went(q.with_lexer(q.lexer.consume_utf8_bytes(tokens, size)))
+}
+
+// Whether a Word is next.
+pub fn word_next(tokens: &[u32], p: Parser) -> bool
+    ensures { λ r. ⌜ r ≡ asked (eqb wordKind) (peek (now (tokens .entry)) (cursorOf (p .lexer))) ⌝ }
+{
+    let peeked = p.lexer.peek(tokens);
+    let Peeked::Kind(kind) = peeked else {
+        return false;
+    };
+    kind == Token::WORD
+}
+
+// One character of a Word.
+pub fn word_character(text: &[u8], tokens: &[u32], tree: &mut [u32], p: Parser) -> Step
+    requires { ⌜ (p .lexer .token < tokenCount (now tokens)) × (kindAt (now tokens) (p .lexer .token) ≡ wordKind) × Somehow (λ t. (t .text ≡ now text) × (t .tokens ≡ now tokens)) p (now tree) ⌝ }
+    ensures { λ r. ⌜ ((notes : List ℕ) → Ran (λ t. (t .text ≡ now (text .entry)) × (t .tokens ≡ now (tokens .entry))) 1 (λ s n. spec.singleChar (flat n) s) p (record { tree = now (tree .entry); dropped = notes }) r (record { tree = now (tree .exit); dropped = notes })) ⌝ }
+{
+    single_char(tokens, tree, p, p.lexer.peek_text(text, tokens))
 }
 
 // A node of a kind with one token in it.

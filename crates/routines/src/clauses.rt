@@ -1,4 +1,4 @@
-// Items with no item inside: `text` and `clause_lr`; and `start_command_at`.
+// Items with no item inside, and parts of items that have one: texts, delimiters, the ends of environments and bodies, commands that wrap.
 ghost use mathlib.Core.Path.{_≡_};
 ghost use mathlib.Core.List.{List};
 ghost use Prim.Native.Nat.{ℕ, _<_};
@@ -10,13 +10,14 @@ ghost use Rattle.rules.specs.Tables.{tokenCount};
 ghost use Rattle.lexer.specs.Reading.{cursorOf};
 ghost use Rattle.rules.specs.Routines as spec;
 ghost use Rattle.builder.specs.Contract.{Fits, Within};
-ghost use Rattle.routines.specs.Stands.{markOf};
+ghost use Rattle.routines.specs.Stands.{keptOf, optionOf};
 ghost use Rattle.routines.specs.Contract.{MarkOk, Opens, Ran, Somehow};
 use crate::state::Mark;
 use crate::state::Parser;
 use crate::state::Step;
 use crate::tokens::eat;
 use crate::tokens::eat_as;
+use crate::tokens::one_in;
 use crate::tokens::single_char;
 use crate::tokens::trivia;
 use items::is_command_name;
@@ -116,13 +117,61 @@ pub fn clause_lr(text: &[u8], tokens: &[u32], tree: &mut [u32], p: Parser) -> St
     d.finish_node(tree, SyntaxKind::CLAUSE_LR, p.builder.frame())
 }
 
-// A command's node, around what stands from a mark on if there is one.
-pub fn start_command_at(tree: &mut [u32], p: Parser, at: Mark) -> Step
-    requires { ⌜ Fits (p .builder) (now tree) × Within (p .builder) × MarkOk at (p .builder) ⌝ }
-    ensures { λ r. ⌜ ((s : Source) (notes : List ℕ) → Opens (λ n. spec.startCommandAt (flat n) s (markOf at)) p (record { tree = now (tree .entry); dropped = notes }) r (record { tree = now (tree .exit); dropped = notes })) ⌝ }
+// The end of an environment, where it is next.
+pub fn end_clause(tokens: &[u32], tree: &mut [u32], p: Parser) -> Step
+    requires { ⌜ Somehow (λ t. t .tokens ≡ now tokens) p (now tree) ⌝ }
+    ensures { λ r. ⌜ ((notes : List ℕ) → Ran (λ t. t .tokens ≡ now (tokens .entry)) 0 (λ s n. spec.endClause (flat n) s) p (record { tree = now (tree .entry); dropped = notes }) r (record { tree = now (tree .exit); dropped = notes })) ⌝ }
 {
-    if at.is_nothing() {
-        return p.start_node(tree, SyntaxKind::ITEM_CMD);
+    let peeked = p.lexer.peek(tokens);
+    let Peeked::Kind(kind) = peeked else {
+        return Step::Went(p);
+    };
+    if kind == Token::END_ENVIRONMENT {
+        return one_in(tokens, tree, p, SyntaxKind::ITEM_END);
     }
-    p.wrap(tree, SyntaxKind::ITEM_CMD, at.checkpoint())
+    Step::Went(p)
+}
+
+// The right delimiter, where it is next.
+pub fn right_clause(text: &[u8], tokens: &[u32], tree: &mut [u32], p: Parser) -> Step
+    requires { ⌜ Somehow (λ t. (t .text ≡ now text) × (t .tokens ≡ now tokens)) p (now tree) ⌝ }
+    ensures { λ r. ⌜ ((notes : List ℕ) → Ran (λ t. (t .text ≡ now (text .entry)) × (t .tokens ≡ now (tokens .entry))) 0 (λ s n. spec.rightClause (flat n) s) p (record { tree = now (tree .entry); dropped = notes }) r (record { tree = now (tree .exit); dropped = notes })) ⌝ }
+{
+    let peeked = p.lexer.peek(tokens);
+    let Peeked::Kind(kind) = peeked else {
+        return Step::Went(p);
+    };
+    if kind == Token::RIGHT {
+        return clause_lr(text, tokens, tree, p);
+    }
+    Step::Went(p)
+}
+
+// A node of a kind begins, around what stands from a mark on if there is one.
+pub fn start_around(tree: &mut [u32], p: Parser, kind: u32, at: Mark) -> Step
+    requires { ⌜ Fits (p .builder) (now tree) × Within (p .builder) × MarkOk (keptOf at) (p .builder) ⌝ }
+    ensures { λ r. ⌜ ((s : Source) (notes : List ℕ) → Opens (λ n. spec.startAround (flat n) s kind (optionOf at)) p (record { tree = now (tree .entry); dropped = notes }) r (record { tree = now (tree .exit); dropped = notes })) ⌝ }
+{
+    let Mark::At(checkpoint) = at else {
+        return p.start_node(tree, kind);
+    };
+    p.wrap(tree, kind, checkpoint)
+}
+
+// A command that wraps what stands from last on, else from start, else nothing.
+//   a\l   Cmd[Arg[Text a] \l]
+pub fn left1_command(tokens: &[u32], tree: &mut [u32], p: Parser) -> Step
+    requires { ⌜ (p .lexer .token < tokenCount (now tokens)) × Somehow (λ t. t .tokens ≡ now tokens) p (now tree) ⌝ }
+    ensures { λ r. ⌜ ((notes : List ℕ) → Ran (λ t. t .tokens ≡ now (tokens .entry)) 1 (λ s n. spec.left1Command (flat n) s) p (record { tree = now (tree .entry); dropped = notes }) r (record { tree = now (tree .exit); dropped = notes })) ⌝ }
+{
+    let mark = p.list_last().or(p.list_start());
+    let opened = start_around(tree, p, SyntaxKind::ITEM_CMD, mark);
+    let Step::Went(begun) = opened else {
+        return opened;
+    };
+    let eaten = eat(tokens, tree, begun);
+    let Step::Went(named) = eaten else {
+        return eaten;
+    };
+    named.finish_node(tree, SyntaxKind::ITEM_CMD, p.builder.frame())
 }

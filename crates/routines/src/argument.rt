@@ -1,0 +1,62 @@
+// An argument's node, `arg`: what is held is dropped before it; and a character of a Word in such a node.
+ghost use mathlib.Core.Path.{_≡_};
+ghost use mathlib.Core.List.{List};
+ghost use Prim.Native.Nat.{ℕ, _<_};
+ghost use Rattle.rules.specs.Cursor.{peekText};
+ghost use Rattle.rules.specs.Flat.{flat};
+ghost use Rattle.rules.specs.Routines as spec;
+ghost use Rattle.rules.specs.Tables.{tokenCount, kindAt};
+ghost use Rattle.rules.specs.Token.{Word as wordKind};
+ghost use Rattle.builder.specs.Contract.{Fits, Within};
+ghost use Rattle.builder.specs.Stands as shown;
+ghost use Rattle.lexer.specs.Reading.{cursorOf};
+ghost use Rattle.routines.specs.Contract.{Ran, Begins, Closes, Known, Holding, Droppable};
+use crate::held::ignore_holding_trivia;
+use crate::state::Parser;
+use crate::state::Step;
+use crate::tokens::single_char;
+use builder::Frame;
+use syntax::SyntaxKind;
+
+// What is held is dropped, and the node begins.
+pub fn begin_argument(tree: &mut [u32], dropped: &mut [u32], p: Parser) -> Step
+    requires { ⌜ Fits (p .builder) (now tree) × Droppable p (now dropped) ⌝ }
+    ensures { λ r. ⌜ TODO ⌝ }
+{
+    let ignored = ignore_holding_trivia(dropped, p);
+    ignored.start_node(tree, SyntaxKind::CLAUSE_ARGUMENT)
+}
+
+// The node ends, and nothing is held behind it.
+pub fn end_argument(tree: &mut [u32], p: Parser, parent: Frame) -> Step
+    requires { ⌜ Fits (p .builder) (now tree) × Within (p .builder) ⌝ }
+    ensures { λ r. ⌜ TODO ⌝ }
+{
+    let ended = p.finish_node(tree, SyntaxKind::CLAUSE_ARGUMENT, parent);
+    let Step::Went(closed) = ended else {
+        return ended;
+    };
+    Step::Went(closed.holding_none())
+}
+
+// One character of a Word, or of what is left of one, as an argument.
+pub fn character(
+    tokens: &[u32],
+    tree: &mut [u32],
+    dropped: &mut [u32],
+    p: Parser,
+    word: &[u8],
+) -> Step
+    requires { ⌜ (p .lexer .token < tokenCount (now tokens)) × (kindAt (now tokens) (p .lexer .token) ≡ wordKind) × Holding p × Known (λ t. (t .tokens ≡ now tokens) × (now word ≡ peekText (t .text) (now tokens) (cursorOf (p .lexer)))) p (record { tree = now tree; dropped = now dropped }) ⌝ }
+    ensures { λ r. ⌜ TODO ⌝ }
+{
+    let opened = begin_argument(tree, dropped, p);
+    let Step::Went(begun) = opened else {
+        return opened;
+    };
+    let taken = single_char(tokens, tree, begun, word);
+    let Step::Went(read) = taken else {
+        return taken;
+    };
+    end_argument(tree, read, p.builder.frame())
+}
