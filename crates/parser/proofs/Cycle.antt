@@ -15,7 +15,7 @@ use Rattle.routines.specs.declared.state.Mark.{Mark}
 use Rattle.routines.specs.declared.state.Parser.{Parser}
 use Rattle.routines.specs.declared.state.Step.{Step}
 use Rattle.routines.specs.declared.state.Step.the-variants.{Went, Refused}
-use Rattle.routines.proofs.Walk.{Rule, line, Walk, Call, steps-on, stays-home, leaves, passed-then, weaker}
+use Rattle.routines.proofs.Walk.{Rule, line, Walk, Call, stays-home, weaker}
 
 -- ---- calls
 
@@ -52,31 +52,6 @@ unnested (f ∷ inner) rest n d q = bind-bind (f n d q) (line inner n d) (line r
 pub opened : (f : Rule) (inner rest : List Rule) (n d : ℕ) (q : Here) → line (f ∷ line inner ∷ rest) n d q ≡ line (f ∷ (inner ++ rest)) n d q
 unfolding line
 opened f inner rest n d q = same-after (f n d q) _ _ (unnested inner rest n d)
-
--- ---- a node is ended before the last step
-
--- the callee went, and ended the node that the routine opened: it is in its own again
-pub leaves-node : {t : Tables} {rule f : Rule} {rest : List Rule} {gain : ℕ} {scope : ℕ} {s : Parser} {m : Buffers} {u : Parser} {v : Buffers} {r : Step} {x : Buffers} {z : Parser}
-    → Ready t s m → Walk t rule (f ∷ rest) gain 1 scope s m u v → Call t f 1 (λ q. Ended t (s .builder .first) (s .builder .node) u v q x) u v r x → r ≡ Went z
-    → Walk t rule rest gain 0 scope s m z x
-leaves-node {gain = gain} ready w k e =
-    let ended = leaves w k e in
-    let passed = passed-then (w .passed) (ended .passed) in
-    let depth = w .depth in
-    let shallower = ended .depth in
-    let first = ended .first-is in
-    let node = ended .node-is in
-    let within = ready .within in
-    let rows = passed .rows in
-    record {
-      is = steps-on w k e;
-      passed = weaker gain (omega arith) passed;
-      ready = record { steady = ended .steady; within = record { depth = omega arith; first = omega arith; node = omega arith } };
-      depth = omega arith;
-      few = omega arith;
-      home = (first, node);
-      scope-is = ap (λ l. l .scope) (ended .list) ∙ w .scope-is;
-    }
 
 -- ---- steps that call nothing
 

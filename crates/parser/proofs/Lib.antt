@@ -8,6 +8,5 @@ pub mod Extents
 pub mod ItemLoop
 pub mod Marks
 pub mod Scripts
-pub mod Turn
 pub mod WordLoop
 pub mod FromRoot

@@ -18,12 +18,12 @@ use Rattle.builder.proofs.Facts as facts
 use Rattle.routines.specs.Stands.{Buffers, Here, posOf, outOf}
 use Rattle.routines.specs.Change.{rebuilt, buildingOf}
 use Rattle.routines.specs.Contract.{MarkOk, Steady, Passed, Leafed, Begun, Ended, Gone, Told, Opens, Closes}
-use Rattle.routines.specs.declared.state.Mark.{Mark}
+use Rattle.routines.specs.declared.state.KeptMark.{KeptMark}
 use Rattle.routines.specs.declared.state.Parser.{Parser}
 use Rattle.routines.specs.declared.state.Step.{Step}
 
 -- a mark is good for more rows too
-pub mark-more : (m : Mark) (b u : GreenNodeBuilder) → b .rows ≤ u .rows → MarkOk m b → MarkOk m u
+pub mark-more : (m : KeptMark) (b u : GreenNodeBuilder) → b .rows ≤ u .rows → MarkOk m b → MarkOk m u
 mark-more m b u more ok = record { children = ok .children; row = omega arith }
 
 module _ (p : Parser) (t v notes : List ℕ) where

@@ -8,3 +8,6 @@ pub mod HeldLaws
 pub mod Outside
 pub mod Dropping
 pub mod Skipping
+pub mod Turn
+pub mod ArgumentNode
+pub mod Marks

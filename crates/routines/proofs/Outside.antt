@@ -7,7 +7,7 @@ use Rattle.rules.specs.Checks.{Tables, sourceOf}
 use Rattle.rules.specs.Outcome.{Out}
 use Rattle.rules.specs.Position as position
 use Rattle.routines.specs.Stands.{Buffers, Here}
-use Rattle.routines.specs.Contract.{Ready, Begun, Opens, Ran, RuleOf, Known, Somehow}
+use Rattle.routines.specs.Contract.{Ready, Begun, Opens, Begins, Ran, RuleOf, Known, Somehow}
 use Rattle.routines.specs.declared.state.Parser.{Parser}
 use Rattle.routines.specs.declared.state.Step.{Step}
 use Rattle.routines.specs.declared.state.Step.the-variants.{Went}
@@ -34,6 +34,9 @@ ran-seeing f k = record { told = λ t seen ready. k .told t (f t seen) ready }
 -- where a node begins, no token is passed
 pub begins-there : {t : Tables} {rule : ℕ → Here → Out Here} {p q : Parser} {m : Buffers} {r : Step} {v : Buffers} → Ready t p m → Opens rule p m r v → r ≡ Went q → q .lexer ≡ p .lexer
 begins-there {t} {p = p} {q} {m} {v = v} ready k e = let b : Begun t p m q v = rw e at (k .told t (ready .steady) .gone) in b .lexer
+
+pub begun-there : {t : Tables} {rule : RuleOf} {p q : Parser} {m : Buffers} {r : Step} {v : Buffers} → Ready t p m → Begins rule p m r v → r ≡ Went q → q .lexer ≡ p .lexer
+begun-there {t} {p = p} {q} {m} {v = v} ready k e = let b : Begun t p m q v = rw e at (k .told t ready .gone) in b .lexer
 
 -- the dropped buffer is one that there is
 pub known-somehow : {sees : Tables → Type 0} {p : Parser} {m : Buffers} → Known sees p m → Somehow sees p (m .tree)

@@ -32,7 +32,7 @@ pub gone-map : {P Q : Parser → Type 0} (r : Step) → ((q : Parser) → P q �
 gone-map (Went q) f g = f q g
 gone-map (Refused number place) f g = tt
 
-then-went : (o : Out Here) (f : Here → Out Here) (p : Here) (x : Out Here) → o ≡ went p → f p ≡ x → bind o f ≡ x
+pub then-went : (o : Out Here) (f : Here → Out Here) (p : Here) (x : Out Here) → o ≡ went p → f p ≡ x → bind o f ≡ x
 then-went o f p x e h = rw e h
 
 -- ---- rules
@@ -157,7 +157,7 @@ begins {m} ready e =
 module _ {t : Tables} {rule f : Rule} {rest : List Rule} {gain lift : ℕ} {scope : ℕ} {s : Parser} {m : Buffers} {u : Parser} {v : Buffers} {r : Step} {x : Buffers}
     (w : Walk t rule (f ∷ rest) gain lift scope s m u v) where
   -- what f comes to, at the caller's room and level
-  call-is : {Q : Parser → Type 0} → Call t f lift Q u v r x → (d : ℕ) → nodes ≤ s .builder .depth + d → f (length (m .tree)) d (posOf u v) ≡ outOf r x
+  pub call-is : {Q : Parser → Type 0} → Call t f lift Q u v r x → (d : ℕ) → nodes ≤ s .builder .depth + d → f (length (m .tree)) d (posOf u v) ≡ outOf r x
   call-is k d h =
       let depth = w .depth in
       rw (w .passed .tree-long) at (k .is (w .ready) d (omega arith))

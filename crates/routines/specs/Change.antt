@@ -4,7 +4,7 @@ use Rattle.lexer.specs.declared.cursor.Lexer.{Lexer}
 use Rattle.builder.specs.declared.GreenNodeBuilder.{GreenNodeBuilder}
 use Rattle.builder.specs.declared.Built.{Built}
 use Rattle.builder.specs.declared.Built.the-variants as built
-use Rattle.routines.specs.declared.state.Mark.{Mark}
+use Rattle.routines.specs.declared.state.KeptMark.{KeptMark}
 use Rattle.routines.specs.declared.state.ListState.{ListState}
 use Rattle.routines.specs.declared.state.Parser.{Parser}
 use Rattle.routines.specs.declared.state.Step.{Step}
@@ -16,7 +16,7 @@ relexed p l = record { lexer = l; held = p .held; list = p .list; builder = p .b
 abbrev pub relisted : Parser → ListState → Parser
 relisted p l = record { lexer = p .lexer; held = p .held; list = l; builder = p .builder; dropped = p .dropped }
 
-abbrev pub remarked : Parser → Mark → Mark → Parser
+abbrev pub remarked : Parser → KeptMark → KeptMark → Parser
 remarked p start last = relisted p (record { scope = p .list .scope; start = start; last = last })
 
 abbrev pub unheld : Parser → Parser

@@ -3,6 +3,8 @@ use Prim.Native.Nat.{ℕ, _+_, _*_, _-_, _/_, _^_, _≤_, _<_}
 use mathlib.Core.Path.{_≡_}
 use mathlib.Core.Bool.{Bool, not, cond, _&&_}
 use mathlib.Core.List.{List, _++_}
+use denote.Ref.{RefT}
+use denote.Triple.Both.{Both}
 use lib.Dec.{eqb}
 use lib.ListN.{length, take, drop}
 use Rattle.rules.specs.Limits.{tokens, nodes, treeWidth, droppedWidth, shapeWidth}
@@ -11,17 +13,20 @@ use Rattle.rules.specs.Flat.{flat, droppedRow}
 use Rattle.rules.specs.Routines.{ignoreHoldingTrivia}
 use Rattle.rules.specs.Items.{isIf}
 use Rattle.rules.specs.Checks.{Tables, sourceOf}
+use Rattle.rules.specs.Builder.{Leaf}
+use Rattle.rules.specs.Position as position
 use Rattle.rules.specs.Position.{Source}
-use Rattle.rules.specs.Tables.{tokenCount, shapeAt}
-use Rattle.rules.specs.Token.{EndIf}
-use Rattle.rules.specs.Cursor.{left}
+use Rattle.rules.specs.Tables.{tokenCount, kindAt, shapeAt}
+use Rattle.rules.specs.Token.{EndIf, Word as wordKind}
+use Rattle.rules.specs.Cursor.{left, peekText}
 use Rattle.lexer.specs.Reading.{cursorOf}
 use Rattle.lexer.specs.Fine.{Sound, Fine}
 use Rattle.builder.specs.Contract.{Fits, Within, Inside}
+use Rattle.builder.specs.declared.Frame.{Frame}
 use Rattle.builder.specs.declared.GreenNodeBuilder.{GreenNodeBuilder}
 use Rattle.routines.specs.Stands.{Buffers, Here, checkpointOf, posOf, outOf}
 use Rattle.routines.specs.Change.{ignored}
-use Rattle.routines.specs.declared.state.Mark.{Mark}
+use Rattle.routines.specs.declared.state.KeptMark.{KeptMark}
 use Rattle.routines.specs.declared.state.Parser.{Parser}
 use Rattle.routines.specs.declared.state.Step.{Step}
 use Rattle.routines.specs.declared.state.Step.the-variants.{Went, Refused}
@@ -29,7 +34,7 @@ use Rattle.routines.specs.declared.state.Step.the-variants.{Went, Refuse
 -- ---- what a routine may assume
 
 -- a mark was made when there were no more rows than now; no mark has row 0, so this holds of it everywhere
-abbrev pub MarkOk : Mark → GreenNodeBuilder → Type 0
+abbrev pub MarkOk : KeptMark → GreenNodeBuilder → Type 0
 MarkOk m b = Inside (checkpointOf m) b
 
 -- tables that were not refused
@@ -143,6 +148,10 @@ pub record Ran (sees : Tables → Type 0) (gain : ℕ) (rule : RuleOf) (p : Pars
 pub record Opens (rule : ℕ → Here → Out Here) (p : Parser) (m : Buffers) (r : Step) (v : Buffers) : Type 0 where
   pub told : (t : Tables) → Steady t p m → Told rule (λ q. Begun t p m q v) p m r v
 
+-- the same inside a node that is open
+pub record Begins (rule : RuleOf) (p : Parser) (m : Buffers) (r : Step) (v : Buffers) : Type 0 where
+  pub told : (t : Tables) → Ready t p m → Told (rule (sourceOf t)) (λ q. Begun t p m q v) p m r v
+
 -- one that closes a node
 pub record Closes (rule : ℕ → Here → Out Here) (first node : ℕ) (p : Parser) (m : Buffers) (r : Step) (v : Buffers) : Type 0 where
   pub told : (t : Tables) → Ready t p m → Told rule (λ q. Ended t first node p m q v) p m r v
@@ -164,6 +173,70 @@ pub record Somehow (sees : Tables → Type 0) (p : Parser) (tree : List ℕ) : T
   pub notes : List ℕ
   pub seen : sees t
   pub ready : Ready t p (record { tree = tree; dropped = notes })
+
+-- ---- the same over the parameters themselves
+
+-- a parameter as a `requires` has it, and as an `ensures` has it
+abbrev pub Slice : Type 0
+Slice = RefT (List ℕ)
+
+abbrev pub Moments : Type 0
+Moments = Both Slice Slice
+
+abbrev pub buffers : List ℕ → List ℕ → Buffers
+buffers tree dropped = record { tree = tree; dropped = dropped }
+
+-- both buffers, as they are lent
+abbrev pub lent : Slice → Slice → Buffers
+lent tree dropped = buffers (tree .now) (dropped .now)
+
+-- the tables that a routine knows: those with these token rows, and with this text too
+abbrev pub Tokens : Slice → Tables → Type 0
+Tokens tokens t = t .tokens ≡ tokens .now
+
+abbrev pub Texts : Slice → Slice → Tables → Type 0
+Texts text tokens t = (t .text ≡ text .now) × (t .tokens ≡ tokens .now)
+
+-- and those in which these bytes are what is left of the next token
+abbrev pub Left-of : Slice → Slice → Parser → Tables → Type 0
+Left-of tokens word p t = (t .tokens ≡ tokens .now) × (word .now ≡ peekText (t .text) (tokens .now) (cursorOf (p .lexer)))
+
+-- a token is next
+abbrev pub There : Slice → Parser → Type 0
+There tokens p = p .lexer .token < tokenCount (tokens .now)
+
+-- and it is a Word
+abbrev pub AtWord : Slice → Parser → Type 0
+AtWord tokens p = There tokens p × (kindAt (tokens .now) (p .lexer .token) ≡ wordKind)
+
+-- a Word's kind
+abbrev pub isWord : ℕ → Bool
+isWord kind = eqb kind wordKind
+
+-- what a routine comes to that is lent the tree buffer alone, whatever the dropped one holds
+abbrev pub Grows : (Tables → Type 0) → Moments → Parser → Step → ℕ → RuleOf → Type 0
+Grows sees tree p r gain rule =
+    (notes : List ℕ) → Ran sees gain rule p (buffers (tree .entry .now) notes) r (buffers (tree .exit .now) notes)
+
+-- and one that is lent both
+abbrev pub Goes : (Tables → Type 0) → Moments → Moments → Parser → Step → ℕ → RuleOf → Type 0
+Goes sees tree dropped p r gain rule =
+    Ran sees gain rule p (buffers (tree .entry .now) (dropped .entry .now)) r (buffers (tree .exit .now) (dropped .exit .now))
+
+-- a leaf, whatever its token is
+abbrev pub Leafs : Moments → Parser → Step → (ℕ → Leaf) → Type 0
+Leafs tree p r leaf =
+    (notes : List ℕ) (token : ℕ)
+    → Told (λ n. position.leaf (flat n) (leaf token)) (λ q. Leafed p (tree .entry .now) q (tree .exit .now))
+    p (buffers (tree .entry .now) notes) r (buffers (tree .exit .now) notes)
+
+-- a node's start, and its end
+abbrev pub Starts : Moments → Parser → Step → (ℕ → Here → Out Here) → Type 0
+Starts tree p r rule = (notes : List ℕ) → Opens rule p (buffers (tree .entry .now) notes) r (buffers (tree .exit .now) notes)
+
+abbrev pub Finishes : Moments → Parser → Frame → Step → (ℕ → Here → Out Here) → Type 0
+Finishes tree p parent r rule =
+    (notes : List ℕ) → Closes rule (parent .first) (parent .node) p (buffers (tree .entry .now) notes) r (buffers (tree .exit .now) notes)
 
 -- ---- held trivia
 

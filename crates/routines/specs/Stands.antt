@@ -1,6 +1,6 @@
 -- The parser's state, with both buffers beside it, as the rules have it.
 use Prim.Native.Nat.{ℕ, _*_}
-use mathlib.Core.Bool.{Bool, cond}
+use mathlib.Core.Bool.{Bool, true, false, cond}
 use mathlib.Core.List.{List}
 use mathlib.Core.Option.{Option, none, some}
 use lib.Dec.{eqb}
@@ -9,11 +9,14 @@ use Rattle.rules.specs.Limits.{droppedWidth}
 use Rattle.rules.specs.Flat as flat
 use Rattle.rules.specs.Outcome.{Out, went, refused}
 use Rattle.rules.specs.Position as rule
-use Rattle.syntax.specs.ParseScope.{scopeAt}
+use Rattle.syntax.specs.ParseScope.{numberOf, scopeAt}
+use Rattle.syntax.specs.declared.parse_scope.ParseScope.{ParseScope}
 use Rattle.lexer.specs.Reading.{cursorOf}
 use Rattle.builder.specs.Stands as builder
 use Rattle.builder.specs.declared.Checkpoint.{Checkpoint}
+use Rattle.routines.specs.declared.state.KeptMark.{KeptMark}
 use Rattle.routines.specs.declared.state.Mark.{Mark}
+use Rattle.routines.specs.declared.state.Mark.the-variants.{Nothing, At}
 use Rattle.routines.specs.declared.state.ListState.{ListState}
 use Rattle.routines.specs.declared.state.Parser.{Parser}
 use Rattle.routines.specs.declared.state.Step.{Step}
@@ -28,24 +31,48 @@ pub record Buffers : Type 0 where
 abbrev pub Here : Type 0
 Here = rule.Pos flat.Built flat.Mark
 
--- no mark
-abbrev pub noMark : Mark
+-- ---- marks
+
+-- "`Option<Checkpoint>` becomes an enum": what a mark is in the rules
+abbrev pub optionOf : Mark → Option flat.Mark
+optionOf Nothing = none
+optionOf (At checkpoint) = some (builder.markOf checkpoint)
+
+abbrev pub isNothing : Mark → Bool
+isNothing Nothing = true
+isNothing (At checkpoint) = false
+
+-- the first, else the other
+abbrev pub orMark : Mark → Mark → Mark
+orMark Nothing other = other
+orMark (At checkpoint) other = At checkpoint
+
+-- the mark here
+abbrev pub markAt : Parser → Mark
+markAt p = At (record { children = p .builder .children; row = p .builder .rows })
+
+-- how the state keeps a mark: row 0 says that there is none
+abbrev pub noMark : KeptMark
 noMark = record { children = 0; row = 0 }
 
--- the mark that a checkpoint makes
-abbrev pub markAt : Checkpoint → Mark
-markAt c = record { children = c .children; row = c .row }
+abbrev pub keptOf : Mark → KeptMark
+keptOf Nothing = noMark
+keptOf (At checkpoint) = record { children = checkpoint .children; row = checkpoint .row }
 
--- row 0 says that there is none
-abbrev pub isNothing : Mark → Bool
-isNothing m = eqb (m .row) 0
-
--- the checkpoint that made a mark
-abbrev pub checkpointOf : Mark → Checkpoint
+abbrev pub checkpointOf : KeptMark → Checkpoint
 checkpointOf m = record { children = m .children; row = m .row }
 
-abbrev pub markOf : Mark → Option flat.Mark
-markOf m = cond (isNothing m) none (some (builder.markOf (checkpointOf m)))
+abbrev pub markIn : KeptMark → Mark
+markIn m = cond (eqb (m .row) 0) Nothing (At (checkpointOf m))
+
+abbrev pub markOf : KeptMark → Option flat.Mark
+markOf m = cond (eqb (m .row) 0) none (some (builder.markOf (checkpointOf m)))
+
+-- ---- lists and positions
+
+-- a list of a scope, with no mark yet
+abbrev pub listAt : ParseScope → ListState
+listAt scope = record { scope = numberOf scope; start = noMark; last = noMark }
 
 abbrev pub listOf : ListState → rule.ListState flat.Mark
 listOf l = record { scope = scopeAt (l .scope); start = markOf (l .start); last = markOf (l .last) }

@@ -1,16 +1,10 @@
 // An argument's node, `arg`: what is held is dropped before it; and a character of a Word in such a node.
-ghost use mathlib.Core.Path.{_≡_};
-ghost use mathlib.Core.List.{List};
-ghost use Prim.Native.Nat.{ℕ, _<_};
-ghost use Rattle.rules.specs.Cursor.{peekText};
 ghost use Rattle.rules.specs.Flat.{flat};
 ghost use Rattle.rules.specs.Routines as spec;
-ghost use Rattle.rules.specs.Tables.{tokenCount, kindAt};
-ghost use Rattle.rules.specs.Token.{Word as wordKind};
+ghost use Rattle.rules.specs.Position.{Source};
 ghost use Rattle.builder.specs.Contract.{Fits, Within};
 ghost use Rattle.builder.specs.Stands as shown;
-ghost use Rattle.lexer.specs.Reading.{cursorOf};
-ghost use Rattle.routines.specs.Contract.{Ran, Begins, Closes, Known, Holding, Droppable};
+ghost use Rattle.routines.specs.Contract.{AtWord, Begins, Droppable, Finishes, Goes, Holding, Known, Left-of, lent};
 use crate::held::ignore_holding_trivia;
 use crate::state::Parser;
 use crate::state::Step;
@@ -21,7 +15,7 @@ use syntax::SyntaxKind;
 // What is held is dropped, and the node begins.
 pub fn begin_argument(tree: &mut [u32], dropped: &mut [u32], p: Parser) -> Step
     requires { ⌜ Fits (p .builder) (now tree) × Droppable p (now dropped) ⌝ }
-    ensures { λ r. ⌜ TODO ⌝ }
+    ensures { λ r. ⌜ Begins (λ s n. spec.argumentBegins (flat n) s) p (lent (tree .entry) (dropped .entry)) r (lent (tree .exit) (dropped .exit)) ⌝ }
 {
     let ignored = ignore_holding_trivia(dropped, p);
     ignored.start_node(tree, SyntaxKind::CLAUSE_ARGUMENT)
@@ -30,7 +24,7 @@ pub fn begin_argument(tree: &mut [u32], dropped: &mut [u32], p: Parser) -> Step
 // The node ends, and nothing is held behind it.
 pub fn end_argument(tree: &mut [u32], p: Parser, parent: Frame) -> Step
     requires { ⌜ Fits (p .builder) (now tree) × Within (p .builder) ⌝ }
-    ensures { λ r. ⌜ TODO ⌝ }
+    ensures { λ r. ⌜ ((s : Source) → Finishes tree p parent r (λ n. spec.argumentEnds (flat n) s (shown.frameOf parent))) ⌝ }
 {
     let ended = p.finish_node(tree, SyntaxKind::CLAUSE_ARGUMENT, parent);
     let Step::Went(closed) = ended else {
@@ -47,8 +41,8 @@ pub fn character(
     p: Parser,
     word: &[u8],
 ) -> Step
-    requires { ⌜ (p .lexer .token < tokenCount (now tokens)) × (kindAt (now tokens) (p .lexer .token) ≡ wordKind) × Holding p × Known (λ t. (t .tokens ≡ now tokens) × (now word ≡ peekText (t .text) (now tokens) (cursorOf (p .lexer)))) p (record { tree = now tree; dropped = now dropped }) ⌝ }
-    ensures { λ r. ⌜ TODO ⌝ }
+    requires { ⌜ AtWord tokens p × Holding p × Known (Left-of tokens word p) p (lent tree dropped) ⌝ }
+    ensures { λ r. ⌜ Goes (Left-of (tokens .entry) (word .entry) p) tree dropped p r 1 (λ s n. spec.argumentNode (flat n) s (spec.singleChar (flat n) s)) ⌝ }
 {
     let opened = begin_argument(tree, dropped, p);
     let Step::Went(begun) = opened else {

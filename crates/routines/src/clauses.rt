@@ -1,17 +1,14 @@
 // Items with no item inside, and parts of items that have one: texts, delimiters, the ends of environments and bodies, commands that wrap.
 ghost use mathlib.Core.Path.{_≡_};
-ghost use mathlib.Core.List.{List};
-ghost use Prim.Native.Nat.{ℕ, _<_};
 ghost use Rattle.rules.specs.Flat.{flat};
 ghost use Rattle.rules.specs.Cursor.{peek};
 ghost use Rattle.rules.specs.Kinds.{isTextComponent};
 ghost use Rattle.rules.specs.Position.{Source, asked};
-ghost use Rattle.rules.specs.Tables.{tokenCount};
 ghost use Rattle.lexer.specs.Reading.{cursorOf};
 ghost use Rattle.rules.specs.Routines as spec;
 ghost use Rattle.builder.specs.Contract.{Fits, Within};
 ghost use Rattle.routines.specs.Stands.{keptOf, optionOf};
-ghost use Rattle.routines.specs.Contract.{MarkOk, Opens, Ran, Somehow};
+ghost use Rattle.routines.specs.Contract.{Grows, MarkOk, Somehow, Starts, Texts, There, Tokens};
 use crate::state::Mark;
 use crate::state::Parser;
 use crate::state::Step;
@@ -37,8 +34,8 @@ fn more_text(tokens: &[u32], p: Parser) -> bool
 }
 
 fn text_components(tokens: &[u32], tree: &mut [u32], p: Parser) -> Step
-    requires { ⌜ Somehow (λ t. t .tokens ≡ now tokens) p (now tree) ⌝ }
-    ensures { λ r. ⌜ ((notes : List ℕ) → Ran (λ t. t .tokens ≡ now (tokens .entry)) 0 (λ s n q. spec.eatWhile (flat n) s isTextComponent (spec.turns (flat n) s q) q) p (record { tree = now (tree .entry); dropped = notes }) r (record { tree = now (tree .exit); dropped = notes })) ⌝ }
+    requires { ⌜ Somehow (Tokens tokens) p (now tree) ⌝ }
+    ensures { λ r. ⌜ Grows (Tokens (tokens .entry)) tree p r 0 (λ s n q. spec.eatWhile (flat n) s isTextComponent (spec.turns (flat n) s q) q) ⌝ }
 {
     let mut now = p;
     while more_text(tokens, now) {
@@ -52,8 +49,8 @@ fn text_components(tokens: &[u32], tree: &mut [u32], p: Parser) -> Step
 }
 
 pub fn text(tokens: &[u32], tree: &mut [u32], p: Parser) -> Step
-    requires { ⌜ (p .lexer .token < tokenCount (now tokens)) × Somehow (λ t. t .tokens ≡ now tokens) p (now tree) ⌝ }
-    ensures { λ r. ⌜ ((notes : List ℕ) → Ran (λ t. t .tokens ≡ now (tokens .entry)) 1 (λ s n. spec.text (flat n) s) p (record { tree = now (tree .entry); dropped = notes }) r (record { tree = now (tree .exit); dropped = notes })) ⌝ }
+    requires { ⌜ There tokens p × Somehow (Tokens tokens) p (now tree) ⌝ }
+    ensures { λ r. ⌜ Grows (Tokens (tokens .entry)) tree p r 1 (λ s n. spec.text (flat n) s) ⌝ }
 {
     let r = p.start_node(tree, SyntaxKind::ITEM_TEXT);
     let Step::Went(a) = r else {
@@ -72,8 +69,8 @@ pub fn text(tokens: &[u32], tree: &mut [u32], p: Parser) -> Step
 
 // What `clause_lr` takes as the delimiter.
 fn delimiter(text: &[u8], tokens: &[u32], tree: &mut [u32], p: Parser) -> Step
-    requires { ⌜ Somehow (λ t. (t .text ≡ now text) × (t .tokens ≡ now tokens)) p (now tree) ⌝ }
-    ensures { λ r. ⌜ ((notes : List ℕ) → Ran (λ t. (t .text ≡ now (text .entry)) × (t .tokens ≡ now (tokens .entry))) 0 (λ s n. spec.delimiter (flat n) s) p (record { tree = now (tree .entry); dropped = notes }) r (record { tree = now (tree .exit); dropped = notes })) ⌝ }
+    requires { ⌜ Somehow (Texts text tokens) p (now tree) ⌝ }
+    ensures { λ r. ⌜ Grows (Texts (text .entry) (tokens .entry)) tree p r 0 (λ s n. spec.delimiter (flat n) s) ⌝ }
 {
     let peeked = p.lexer.peek(tokens);
     let Peeked::Kind(kind) = peeked else {
@@ -95,8 +92,8 @@ fn delimiter(text: &[u8], tokens: &[u32], tree: &mut [u32], p: Parser) -> Step
 }
 
 pub fn clause_lr(text: &[u8], tokens: &[u32], tree: &mut [u32], p: Parser) -> Step
-    requires { ⌜ (p .lexer .token < tokenCount (now tokens)) × Somehow (λ t. (t .text ≡ now text) × (t .tokens ≡ now tokens)) p (now tree) ⌝ }
-    ensures { λ r. ⌜ ((notes : List ℕ) → Ran (λ t. (t .text ≡ now (text .entry)) × (t .tokens ≡ now (tokens .entry))) 1 (λ s n. spec.clauseLr (flat n) s) p (record { tree = now (tree .entry); dropped = notes }) r (record { tree = now (tree .exit); dropped = notes })) ⌝ }
+    requires { ⌜ There tokens p × Somehow (Texts text tokens) p (now tree) ⌝ }
+    ensures { λ r. ⌜ Grows (Texts (text .entry) (tokens .entry)) tree p r 1 (λ s n. spec.clauseLr (flat n) s) ⌝ }
 {
     let r = p.start_node(tree, SyntaxKind::CLAUSE_LR);
     let Step::Went(a) = r else {
@@ -119,8 +116,8 @@ pub fn clause_lr(text: &[u8], tokens: &[u32], tree: &mut [u32], p: Parser) -> St
 
 // The end of an environment, where it is next.
 pub fn end_clause(tokens: &[u32], tree: &mut [u32], p: Parser) -> Step
-    requires { ⌜ Somehow (λ t. t .tokens ≡ now tokens) p (now tree) ⌝ }
-    ensures { λ r. ⌜ ((notes : List ℕ) → Ran (λ t. t .tokens ≡ now (tokens .entry)) 0 (λ s n. spec.endClause (flat n) s) p (record { tree = now (tree .entry); dropped = notes }) r (record { tree = now (tree .exit); dropped = notes })) ⌝ }
+    requires { ⌜ Somehow (Tokens tokens) p (now tree) ⌝ }
+    ensures { λ r. ⌜ Grows (Tokens (tokens .entry)) tree p r 0 (λ s n. spec.endClause (flat n) s) ⌝ }
 {
     let peeked = p.lexer.peek(tokens);
     let Peeked::Kind(kind) = peeked else {
@@ -134,8 +131,8 @@ pub fn end_clause(tokens: &[u32], tree: &mut [u32], p: Parser) -> Step
 
 // The right delimiter, where it is next.
 pub fn right_clause(text: &[u8], tokens: &[u32], tree: &mut [u32], p: Parser) -> Step
-    requires { ⌜ Somehow (λ t. (t .text ≡ now text) × (t .tokens ≡ now tokens)) p (now tree) ⌝ }
-    ensures { λ r. ⌜ ((notes : List ℕ) → Ran (λ t. (t .text ≡ now (text .entry)) × (t .tokens ≡ now (tokens .entry))) 0 (λ s n. spec.rightClause (flat n) s) p (record { tree = now (tree .entry); dropped = notes }) r (record { tree = now (tree .exit); dropped = notes })) ⌝ }
+    requires { ⌜ Somehow (Texts text tokens) p (now tree) ⌝ }
+    ensures { λ r. ⌜ Grows (Texts (text .entry) (tokens .entry)) tree p r 0 (λ s n. spec.rightClause (flat n) s) ⌝ }
 {
     let peeked = p.lexer.peek(tokens);
     let Peeked::Kind(kind) = peeked else {
@@ -150,7 +147,7 @@ pub fn right_clause(text: &[u8], tokens: &[u32], tree: &mut [u32], p: Parser) ->
 // A node of a kind begins, around what stands from a mark on if there is one.
 pub fn start_around(tree: &mut [u32], p: Parser, kind: u32, at: Mark) -> Step
     requires { ⌜ Fits (p .builder) (now tree) × Within (p .builder) × MarkOk (keptOf at) (p .builder) ⌝ }
-    ensures { λ r. ⌜ ((s : Source) (notes : List ℕ) → Opens (λ n. spec.startAround (flat n) s kind (optionOf at)) p (record { tree = now (tree .entry); dropped = notes }) r (record { tree = now (tree .exit); dropped = notes })) ⌝ }
+    ensures { λ r. ⌜ ((s : Source) → Starts tree p r (λ n. spec.startAround (flat n) s kind (optionOf at))) ⌝ }
 {
     let Mark::At(checkpoint) = at else {
         return p.start_node(tree, kind);
@@ -161,8 +158,8 @@ pub fn start_around(tree: &mut [u32], p: Parser, kind: u32, at: Mark) -> Step
 // A command that wraps what stands from last on, else from start, else nothing.
 //   a\l   Cmd[Arg[Text a] \l]
 pub fn left1_command(tokens: &[u32], tree: &mut [u32], p: Parser) -> Step
-    requires { ⌜ (p .lexer .token < tokenCount (now tokens)) × Somehow (λ t. t .tokens ≡ now tokens) p (now tree) ⌝ }
-    ensures { λ r. ⌜ ((notes : List ℕ) → Ran (λ t. t .tokens ≡ now (tokens .entry)) 1 (λ s n. spec.left1Command (flat n) s) p (record { tree = now (tree .entry); dropped = notes }) r (record { tree = now (tree .exit); dropped = notes })) ⌝ }
+    requires { ⌜ There tokens p × Somehow (Tokens tokens) p (now tree) ⌝ }
+    ensures { λ r. ⌜ Grows (Tokens (tokens .entry)) tree p r 1 (λ s n. spec.left1Command (flat n) s) ⌝ }
 {
     let mark = p.list_last().or(p.list_start());
     let opened = start_around(tree, p, SyntaxKind::ITEM_CMD, mark);

@@ -1,11 +1,10 @@
 // Held trivia, a range of tokens: from the first held one up to the next to be read.
 ghost use mathlib.Core.Path.{_≡_};
-ghost use mathlib.Core.List.{List};
-ghost use Prim.Native.Nat.{ℕ, _+_, _<_, _^_};
+ghost use Prim.Native.Nat.{_+_, _<_, _^_};
 ghost use Rattle.rules.specs.Flat.{flat};
 ghost use Rattle.rules.specs.Routines as spec;
 ghost use Rattle.routines.specs.Change.{relexed};
-ghost use Rattle.routines.specs.Contract.{Droppable, Ignored, Ran, Somehow};
+ghost use Rattle.routines.specs.Contract.{Droppable, Grows, Ignored, Somehow, Tokens};
 use crate::state::Parser;
 use crate::state::Step;
 use builder::drop_token;
@@ -47,8 +46,8 @@ pub fn ignore_holding_trivia(dropped: &mut [u32], p: Parser) -> Parser
 
 // What is held becomes leaves.
 pub fn extract_holding_trivia(tokens: &[u32], tree: &mut [u32], p: Parser) -> Step
-    requires { ⌜ Somehow (λ t. t .tokens ≡ now tokens) p (now tree) ⌝ }
-    ensures { λ r. ⌜ ((notes : List ℕ) → Ran (λ t. t .tokens ≡ now (tokens .entry)) 0 (λ s n. spec.extractHoldingTrivia (flat n) s) p (record { tree = now (tree .entry); dropped = notes }) r (record { tree = now (tree .exit); dropped = notes })) ⌝ }
+    requires { ⌜ Somehow (Tokens tokens) p (now tree) ⌝ }
+    ensures { λ r. ⌜ Grows (Tokens (tokens .entry)) tree p r 0 (λ s n. spec.extractHoldingTrivia (flat n) s) ⌝ }
 {
     let mut now = p;
     let mut i = now.held;

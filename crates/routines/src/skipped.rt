@@ -5,10 +5,9 @@ ghost use Prim.Native.Nat.{_<_, _^_};
 ghost use Rattle.rules.specs.Flat.{flat};
 ghost use Rattle.rules.specs.Cursor.{peek};
 ghost use Rattle.rules.specs.Position.{asked};
-ghost use Rattle.rules.specs.Tables.{tokenCount};
 ghost use Rattle.lexer.specs.Reading.{cursorOf};
 ghost use Rattle.rules.specs.Routines as spec;
-ghost use Rattle.routines.specs.Contract.{Ran, Known, RowFree, Dropped, inBody, nestedBehind};
+ghost use Rattle.routines.specs.Contract.{Dropped, Goes, Known, RowFree, There, Tokens, inBody, lent, nestedBehind};
 use crate::state::Parser;
 use crate::state::Step;
 use crate::tokens::eat;
@@ -64,8 +63,8 @@ fn nested_behind(kind: u32, nested: usize) -> usize
 
 // Up to the \fi of nesting 0, which is dropped.
 fn eat_body_of_ifs(tokens: &[u32], tree: &mut [u32], dropped: &mut [u32], p: Parser) -> Step
-    requires { ⌜ Known (λ t. t .tokens ≡ now tokens) p (record { tree = now tree; dropped = now dropped }) ⌝ }
-    ensures { λ r. ⌜ Ran (λ t. t .tokens ≡ now (tokens .entry)) 0 (λ s n q. spec.eatBodyOfIfs (flat n) s (spec.turns (flat n) s q) 0 q) p (record { tree = now (tree .entry); dropped = now (dropped .entry) }) r (record { tree = now (tree .exit); dropped = now (dropped .exit) }) ⌝ }
+    requires { ⌜ Known (Tokens tokens) p (lent tree dropped) ⌝ }
+    ensures { λ r. ⌜ Goes (Tokens (tokens .entry)) tree dropped p r 0 (λ s n q. spec.eatBodyOfIfs (flat n) s (spec.turns (flat n) s q) 0 q) ⌝ }
 {
     let mut now = p;
     let mut nested: usize = 0;
@@ -92,8 +91,8 @@ pub fn skipped_body(
     p: Parser,
     kind: u32,
 ) -> Step
-    requires { ⌜ (p .lexer .token < tokenCount (now tokens)) × Known (λ t. t .tokens ≡ now tokens) p (record { tree = now tree; dropped = now dropped }) ⌝ }
-    ensures { λ r. ⌜ Ran (λ t. t .tokens ≡ now (tokens .entry)) 1 (λ s n. spec.skippedBody (flat n) s kind) p (record { tree = now (tree .entry); dropped = now (dropped .entry) }) r (record { tree = now (tree .exit); dropped = now (dropped .exit) }) ⌝ }
+    requires { ⌜ There tokens p × Known (Tokens tokens) p (lent tree dropped) ⌝ }
+    ensures { λ r. ⌜ Goes (Tokens (tokens .entry)) tree dropped p r 1 (λ s n. spec.skippedBody (flat n) s kind) ⌝ }
 {
     let r = p.start_node(tree, kind);
     let Step::Went(a) = r else {

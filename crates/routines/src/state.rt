@@ -1,14 +1,13 @@
 // The parser's state, which goes in and comes back by value beside the lent slices, and the builder's operations on it.
 ghost use mathlib.Core.Path.{_≡_};
-ghost use mathlib.Core.List.{List};
-ghost use Prim.Native.Nat.{ℕ};
 ghost use Rattle.rules.specs.Flat.{flat};
 ghost use Rattle.rules.specs.Position as spec;
+ghost use Rattle.syntax.specs.ParseScope.{numberOf, scopeAt, scopeOf};
 ghost use Rattle.builder.specs.Stands as shown;
-ghost use Rattle.routines.specs.Stands.{noMark, markAt, isNothing, checkpointOf};
+ghost use Rattle.routines.specs.Stands.{isNothing, orMark, markAt, keptOf, markIn, listAt};
 ghost use Rattle.routines.specs.Change.{buildingOf, relexed, relisted, remarked, unheld};
 ghost use Rattle.builder.specs.Contract.{Fits, Within, Inside};
-ghost use Rattle.routines.specs.Contract.{Told, Leafed, Opens, Closes};
+ghost use Rattle.routines.specs.Contract.{Leafs, Starts, Finishes};
 use builder::Built;
 use builder::Checkpoint;
 use builder::Frame;
@@ -235,7 +234,7 @@ impl Parser {
 
     pub fn leaf(self, tree: &mut [u32], kind: u32, start: u32, size: u32) -> Step
         requires { ⌜ Fits (self .builder) (now tree) ⌝ }
-        ensures { λ r. ⌜ ((notes : List ℕ) (token : ℕ) → Told (λ n. spec.leaf (flat n) (record { token = token; kind = kind; start = start; size = size })) (λ q. Leafed self (now (tree .entry)) q (now (tree .exit))) self (record { tree = now (tree .entry); dropped = notes }) r (record { tree = now (tree .exit); dropped = notes })) ⌝ }
+        ensures { λ r. ⌜ Leafs tree self r (λ token. record { token = token; kind = kind; start = start; size = size }) ⌝ }
     {
         let built = self.builder
             .token(tree, self.lexer.token, kind, start, size);
@@ -244,7 +243,7 @@ impl Parser {
 
     pub fn start_node(self, tree: &mut [u32], kind: u32) -> Step
         requires { ⌜ Fits (self .builder) (now tree) ⌝ }
-        ensures { λ r. ⌜ ((notes : List ℕ) → Opens (λ n. spec.start (flat n) kind) self (record { tree = now (tree .entry); dropped = notes }) r (record { tree = now (tree .exit); dropped = notes })) ⌝ }
+        ensures { λ r. ⌜ Starts tree self r (λ n. spec.start (flat n) kind) ⌝ }
     {
         let built = self.builder.start_node(tree, self.lexer.token, kind);
         self.building(built)
@@ -252,7 +251,7 @@ impl Parser {
 
     pub fn finish_node(self, tree: &mut [u32], kind: u32, parent: Frame) -> Step
         requires { ⌜ Fits (self .builder) (now tree) × Within (self .builder) ⌝ }
-        ensures { λ r. ⌜ ((notes : List ℕ) → Closes (λ n. spec.finish (flat n) kind (shown.frameOf parent)) (parent .first) (parent .node) self (record { tree = now (tree .entry); dropped = notes }) r (record { tree = now (tree .exit); dropped = notes })) ⌝ }
+        ensures { λ r. ⌜ Finishes tree self parent r (λ n. spec.finish (flat n) kind (shown.frameOf parent)) ⌝ }
     {
         let built = self.builder
             .finish_node(tree, self.lexer.token, kind, parent);
@@ -261,7 +260,7 @@ impl Parser {
 
     pub fn wrap(self, tree: &mut [u32], kind: u32, at: Checkpoint) -> Step
         requires { ⌜ Fits (self .builder) (now tree) × Within (self .builder) × Inside at (self .builder) ⌝ }
-        ensures { λ r. ⌜ ((notes : List ℕ) → Opens (λ n. spec.wrap (flat n) kind (shown.markOf at)) self (record { tree = now (tree .entry); dropped = notes }) r (record { tree = now (tree .exit); dropped = notes })) ⌝ }
+        ensures { λ r. ⌜ Starts tree self r (λ n. spec.wrap (flat n) kind (shown.markOf at)) ⌝ }
     {
         let built = self.builder.wrap(tree, self.lexer.token, kind, at);
         self.building(built)

@@ -1,17 +1,12 @@
 // Tokens become leaves: `eat`, `eat_as`, `eat_if`, `trivia`, `single_char`, and a node with one token in it.
 ghost use mathlib.Core.Path.{_≡_};
-ghost use mathlib.Core.List.{List};
-ghost use Prim.Native.Nat.{ℕ, _<_};
-ghost use lib.Dec.{eqb};
 ghost use Rattle.rules.specs.Flat.{flat};
-ghost use Rattle.rules.specs.Cursor.{peek, peekText};
+ghost use Rattle.rules.specs.Cursor.{peek};
 ghost use Rattle.rules.specs.Kinds.{isTrivia};
 ghost use Rattle.rules.specs.Position.{asked};
-ghost use Rattle.rules.specs.Tables.{tokenCount, kindAt};
-ghost use Rattle.rules.specs.Token.{Word as wordKind};
 ghost use Rattle.lexer.specs.Reading.{cursorOf};
 ghost use Rattle.rules.specs.Routines as spec;
-ghost use Rattle.routines.specs.Contract.{Ran, Somehow};
+ghost use Rattle.routines.specs.Contract.{AtWord, Grows, Left-of, Somehow, Texts, There, Tokens, isWord};
 use crate::state::Parser;
 use crate::state::Step;
 use lexer::Column;
@@ -23,8 +18,8 @@ use syntax::Token;
 
 // What is left of the next token becomes a leaf of this kind.
 pub fn eat_as(tokens: &[u32], tree: &mut [u32], p: Parser, kind: u32) -> Step
-    requires { ⌜ (p .lexer .token < tokenCount (now tokens)) × Somehow (λ t. t .tokens ≡ now tokens) p (now tree) ⌝ }
-    ensures { λ r. ⌜ ((notes : List ℕ) → Ran (λ t. t .tokens ≡ now (tokens .entry)) 1 (λ s n. spec.eatAs (flat n) s kind) p (record { tree = now (tree .entry); dropped = notes }) r (record { tree = now (tree .exit); dropped = notes })) ⌝ }
+    requires { ⌜ There tokens p × Somehow (Tokens tokens) p (now tree) ⌝ }
+    ensures { λ r. ⌜ Grows (Tokens (tokens .entry)) tree p r 1 (λ s n. spec.eatAs (flat n) s kind) ⌝ }
 {
     let start = p.lexer.rest_start(tokens);
     let size = p.lexer.rest_length(tokens);
@@ -36,16 +31,16 @@ pub fn eat_as(tokens: &[u32], tree: &mut [u32], p: Parser, kind: u32) -> Step
 }
 
 pub fn eat(tokens: &[u32], tree: &mut [u32], p: Parser) -> Step
-    requires { ⌜ (p .lexer .token < tokenCount (now tokens)) × Somehow (λ t. t .tokens ≡ now tokens) p (now tree) ⌝ }
-    ensures { λ r. ⌜ ((notes : List ℕ) → Ran (λ t. t .tokens ≡ now (tokens .entry)) 1 (λ s n. spec.eat (flat n) s) p (record { tree = now (tree .entry); dropped = notes }) r (record { tree = now (tree .exit); dropped = notes })) ⌝ }
+    requires { ⌜ There tokens p × Somehow (Tokens tokens) p (now tree) ⌝ }
+    ensures { λ r. ⌜ Grows (Tokens (tokens .entry)) tree p r 1 (λ s n. spec.eat (flat n) s) ⌝ }
 {
     let kind = SyntaxKind::from_token(cell(tokens, p.lexer.token, Column::KIND));
     eat_as(tokens, tree, p, kind)
 }
 
 pub fn eat_if(tokens: &[u32], tree: &mut [u32], p: Parser, kind: u32) -> Step
-    requires { ⌜ Somehow (λ t. t .tokens ≡ now tokens) p (now tree) ⌝ }
-    ensures { λ r. ⌜ ((notes : List ℕ) → Ran (λ t. t .tokens ≡ now (tokens .entry)) 0 (λ s n. spec.eatIf (flat n) s kind) p (record { tree = now (tree .entry); dropped = notes }) r (record { tree = now (tree .exit); dropped = notes })) ⌝ }
+    requires { ⌜ Somehow (Tokens tokens) p (now tree) ⌝ }
+    ensures { λ r. ⌜ Grows (Tokens (tokens .entry)) tree p r 0 (λ s n. spec.eatIf (flat n) s kind) ⌝ }
 {
     let peeked = p.lexer.peek(tokens);
     let Peeked::Kind(next) = peeked else {
@@ -69,8 +64,8 @@ fn more_trivia(tokens: &[u32], p: Parser) -> bool
 }
 
 pub fn trivia(tokens: &[u32], tree: &mut [u32], p: Parser) -> Step
-    requires { ⌜ Somehow (λ t. t .tokens ≡ now tokens) p (now tree) ⌝ }
-    ensures { λ r. ⌜ ((notes : List ℕ) → Ran (λ t. t .tokens ≡ now (tokens .entry)) 0 (λ s n. spec.trivia (flat n) s) p (record { tree = now (tree .entry); dropped = notes }) r (record { tree = now (tree .exit); dropped = notes })) ⌝ }
+    requires { ⌜ Somehow (Tokens tokens) p (now tree) ⌝ }
+    ensures { λ r. ⌜ Grows (Tokens (tokens .entry)) tree p r 0 (λ s n. spec.trivia (flat n) s) ⌝ }
 {
     let mut now = p;
     while more_trivia(tokens, now) {
@@ -85,8 +80,8 @@ pub fn trivia(tokens: &[u32], tree: &mut [u32], p: Parser) -> Step
 
 // The first character of a Word, or of what is left of one, becomes a leaf.
 pub fn single_char(tokens: &[u32], tree: &mut [u32], p: Parser, word: &[u8]) -> Step
-    requires { ⌜ (p .lexer .token < tokenCount (now tokens)) × (kindAt (now tokens) (p .lexer .token) ≡ wordKind) × Somehow (λ t. (t .tokens ≡ now tokens) × (now word ≡ peekText (t .text) (now tokens) (cursorOf (p .lexer)))) p (now tree) ⌝ }
-    ensures { λ r. ⌜ ((notes : List ℕ) → Ran (λ t. (t .tokens ≡ now (tokens .entry)) × (now (word .entry) ≡ peekText (t .text) (now (tokens .entry)) (cursorOf (p .lexer)))) 1 (λ s n. spec.singleChar (flat n) s) p (record { tree = now (tree .entry); dropped = notes }) r (record { tree = now (tree .exit); dropped = notes })) ⌝ }
+    requires { ⌜ AtWord tokens p × Somehow (Left-of tokens word p) p (now tree) ⌝ }
+    ensures { λ r. ⌜ Grows (Left-of (tokens .entry) (word .entry) p) tree p r 1 (λ s n. spec.singleChar (flat n) s) ⌝ }
 {
     let size = char_len(word);
     let start = p.lexer.rest_start(tokens);
@@ -99,7 +94,7 @@ pub fn single_char(tokens: &[u32], tree: &mut [u32], p: Parser, word: &[u8]) -> 
 
 // Whether a Word is next.
 pub fn word_next(tokens: &[u32], p: Parser) -> bool
-    ensures { λ r. ⌜ r ≡ asked (eqb wordKind) (peek (now (tokens .entry)) (cursorOf (p .lexer))) ⌝ }
+    ensures { λ r. ⌜ r ≡ asked isWord (peek (now (tokens .entry)) (cursorOf (p .lexer))) ⌝ }
 {
     let peeked = p.lexer.peek(tokens);
     let Peeked::Kind(kind) = peeked else {
@@ -110,16 +105,16 @@ pub fn word_next(tokens: &[u32], p: Parser) -> bool
 
 // One character of a Word.
 pub fn word_character(text: &[u8], tokens: &[u32], tree: &mut [u32], p: Parser) -> Step
-    requires { ⌜ (p .lexer .token < tokenCount (now tokens)) × (kindAt (now tokens) (p .lexer .token) ≡ wordKind) × Somehow (λ t. (t .text ≡ now text) × (t .tokens ≡ now tokens)) p (now tree) ⌝ }
-    ensures { λ r. ⌜ ((notes : List ℕ) → Ran (λ t. (t .text ≡ now (text .entry)) × (t .tokens ≡ now (tokens .entry))) 1 (λ s n. spec.singleChar (flat n) s) p (record { tree = now (tree .entry); dropped = notes }) r (record { tree = now (tree .exit); dropped = notes })) ⌝ }
+    requires { ⌜ AtWord tokens p × Somehow (Texts text tokens) p (now tree) ⌝ }
+    ensures { λ r. ⌜ Grows (Texts (text .entry) (tokens .entry)) tree p r 1 (λ s n. spec.singleChar (flat n) s) ⌝ }
 {
     single_char(tokens, tree, p, p.lexer.peek_text(text, tokens))
 }
 
 // A node of a kind with one token in it.
 pub fn one_in(tokens: &[u32], tree: &mut [u32], p: Parser, kind: u32) -> Step
-    requires { ⌜ (p .lexer .token < tokenCount (now tokens)) × Somehow (λ t. t .tokens ≡ now tokens) p (now tree) ⌝ }
-    ensures { λ r. ⌜ ((notes : List ℕ) → Ran (λ t. t .tokens ≡ now (tokens .entry)) 1 (λ s n. spec.oneIn (flat n) s kind) p (record { tree = now (tree .entry); dropped = notes }) r (record { tree = now (tree .exit); dropped = notes })) ⌝ }
+    requires { ⌜ There tokens p × Somehow (Tokens tokens) p (now tree) ⌝ }
+    ensures { λ r. ⌜ Grows (Tokens (tokens .entry)) tree p r 1 (λ s n. spec.oneIn (flat n) s kind) ⌝ }
 {
     let r = p.start_node(tree, kind);
     let Step::Went(a) = r else {

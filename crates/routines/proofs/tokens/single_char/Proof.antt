@@ -11,7 +11,7 @@ use Rattle.routines.proofs.tokens.single_char.Statement.{statement}
 use Rattle.routines.proofs.tokens.single_char.Tie as tie
 
 rest-start-requires : tie.Need-rest-start-requires
-rest-start-requires c κs = here-of (seen-less (λ t seen. seen .0) (c .before .before .before .before .pre .2)) (c .before .before .before .before .pre .0)
+rest-start-requires c κs = here-of (seen-less (λ t seen. seen .0) (c .before .before .before .before .pre .1)) (c .before .before .before .before .pre .0 .0)
 
 -- a character has four bytes at most
 cast-leaf : tie.Need-cast-leaf
@@ -26,7 +26,7 @@ returns c = λ notes. record {
 
 consume-utf8-bytes-requires : tie.Need-consume-utf8-bytes-requires
 consume-utf8-bytes-requires c κs =
-    rw (same-lexer (c .before .before .before .before .before .leaf .ensures [] 0) (c .before .r .given .1)) (here-of (seen-less (λ t seen. seen .0) (c .before .before .before .before .before .before .before .before .before .before .before .before .pre .2)) (c .before .before .before .before .before .before .before .before .before .before .before .before .pre .0))
+    rw (same-lexer (c .before .before .before .before .before .leaf .ensures [] 0) (c .before .r .given .1)) (here-of (seen-less (λ t seen. seen .0) (c .before .before .before .before .before .before .before .before .before .before .before .before .pre .1)) (c .before .before .before .before .before .before .before .before .before .before .before .before .pre .0 .0))
 
 returns-2 : tie.Need-returns-2
 returns-2 c = λ notes. record {
@@ -36,7 +36,7 @@ returns-2 c = λ notes. record {
       (single-char-is t (c .before .before .before .before .before .before .before .before .before .before .before .before .before .before .args .tokens .now) (c .before .before .before .before .before .before .before .before .before .before .before .before .before .before .args .word .now) (c .before .before .before .before .before .before .before .before .before .before .before .before .before .before .args .p) (record { tree = c .before .before .before .before .before .before .before .before .before .before .before .before .before .before .args .tree .now; dropped = notes }) (c .before .before .before .before .before .before .before .before .before .rest-start .result) (c .before .before .before .before .before .before .before .before .before .before .char-len .result) (seen .0) (seen .1) (c .before .before .before .before .before .before .before .before .before .rest-start .ensures) (c .before .before .before .before .before .before .before .before .before .before .char-len .ensures))
       _ (c .before .before .before .before .before .before .before .leaf .ensures notes (c .before .before .before .before .before .before .before .before .before .before .before .before .before .before .args .p .lexer .token)) (c .before .before .before .r .given .1)
       (c .with-lexer .ensures) (c .before .consume-utf8-bytes .ensures) (c .before .before .before .before .before .before .before .leaf .kept .1 .0)
-      (onward-char ready (rw (seen .0) (c .before .before .before .before .before .before .before .before .before .before .before .before .before .before .pre .0)) (rw (seen .0) (c .before .before .before .before .before .before .before .before .before .before .before .before .before .before .pre .1)) (c .before .consume-utf8-bytes .ensures ∙ rw (same, seen .0, ← seen .1, ← c .before .before .before .before .before .before .before .before .before .before .char-len .ensures)));
+      (onward-char ready (rw (seen .0) (c .before .before .before .before .before .before .before .before .before .before .before .before .before .before .pre .0 .0)) (rw (seen .0) (c .before .before .before .before .before .before .before .before .before .before .before .before .before .before .pre .0 .1)) (c .before .consume-utf8-bytes .ensures ∙ rw (same, seen .0, ← seen .1, ← c .before .before .before .before .before .before .before .before .before .before .char-len .ensures)));
 }
 
 pub single-char-spec : {M : Type 1} → statement M

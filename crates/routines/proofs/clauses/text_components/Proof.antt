@@ -1,0 +1,57 @@
+-- `clauses::text_components` meets its contract: the loop eats while the next token goes on a text. Assumes nothing.
+use mathlib.Core.Path.{sym, _∙_}
+use borrow.Author.Needs.{needs}
+use Rattle.rules.specs.Cursor.{left}
+use Rattle.rules.specs.Kinds.{isTextComponent}
+use Rattle.lexer.specs.Reading.{cursorOf}
+use Rattle.routines.proofs.Eating.{Eating, asked-there, eating-begins, eating-ready, eating-long, eating-goes-on, eating-less, eating-stops, eating-ends}
+use Rattle.routines.proofs.clauses.text_components.Statement.{statement}
+use Rattle.routines.proofs.clauses.text_components.Tie as tie
+
+abbrev Inv-loop : tie.InvT-loop
+Inv-loop tokens tree₀ now₀ tree now = Eating isTextComponent tokens now₀ tree₀ now tree
+
+abbrev μ-loop : tie.MeasureT-loop
+μ-loop tokens tree₀ now₀ tree now = left tokens (cursorOf (now .lexer))
+
+loop-holds : tie.Need-loop-holds Inv-loop μ-loop
+loop-holds c = eating-begins _ _ _ _
+
+eat-requires : tie.Need-eat-requires Inv-loop μ-loop
+eat-requires c κs = (asked-there isTextComponent _ _ (sym (c .before .before .more-text .ensures) ∙ c .before .if1 .taken), eating-ready _ _ _ _ (c .before .before .before .loop .inv) (c .before .before .before .before .before .before .pre))
+
+returns : tie.Need-returns Inv-loop μ-loop
+returns c = eating-stops _ _ _ _ (c .before .before .before .before .before .before .before .before .loop .inv) (sym (c .before .before .before .before .before .before .before .more-text .ensures) ∙ c .before .before .before .before .before .before .if1 .taken) (c .before .before .before .before .eat .ensures) (c .enum-told .given)
+
+same-length : tie.Need-same-length Inv-loop μ-loop
+same-length c = c .before .before .before .before .eat .kept .1 .0 ∙ eating-long _ _ _ _ (c .before .before .before .before .before .before .before .before .loop .inv) (c .before .before .before .before .before .before .before .before .before .before .before .pre)
+
+same-length-2 : tie.Need-same-length-2 Inv-loop μ-loop
+same-length-2 c = eating-long _ _ _ _ (c .before .before .loop .inv) (c .before .before .before .before .before .pre)
+
+loop-less : tie.Need-loop-less Inv-loop μ-loop
+loop-less c = eating-less _ _ _ _ (c .before .before .before .before .before .before .before .before .before .loop .inv) (sym (c .before .before .before .before .before .before .before .before .more-text .ensures) ∙ c .before .before .before .before .before .before .before .if1 .taken) (c .before .before .before .before .before .eat .ensures) (c .before .before .before .before .before .before .before .before .before .before .before .before .pre) (c .before .r .given .1)
+
+loop-again : tie.Need-loop-again Inv-loop μ-loop
+loop-again c = eating-goes-on _ _ _ _ (c .before .before .before .before .before .before .before .before .before .loop .inv) (sym (c .before .before .before .before .before .before .before .before .more-text .ensures) ∙ c .before .before .before .before .before .before .before .if1 .taken) (c .before .before .before .before .before .eat .ensures) (c .before .r .given .1)
+
+returns-2 : tie.Need-returns-2 Inv-loop μ-loop
+returns-2 c = eating-ends _ _ _ _ (c .before .before .loop .inv) (sym (c .before .more-text .ensures) ∙ c .if1 .left)
+
+pub text-components-spec : {M : Type 1} → statement M
+text-components-spec =
+    tie.close
+    (tie.spec
+    Inv-loop
+    μ-loop
+    loop-holds
+    (λ c κs. search needs)
+    eat-requires
+    (λ c. search needs)
+    (λ c. search needs)
+    same-length
+    returns
+    loop-less
+    loop-again
+    same-length-2
+    returns-2)
