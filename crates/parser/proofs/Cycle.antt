@@ -11,7 +11,7 @@ use Rattle.routines.specs.Stands.{Buffers, Here, posOf, outOf}
 use Rattle.routines.specs.Change.{relisted, remarked, unheld}
 use Rattle.routines.specs.Contract.{MarkOk, Ready, Left, Ended, Gone, Runs, Ran, RuleOf}
 use Rattle.routines.specs.declared.state.ListState.{ListState}
-use Rattle.routines.specs.declared.state.Mark.{Mark}
+use Rattle.routines.specs.declared.state.KeptMark.{KeptMark}
 use Rattle.routines.specs.declared.state.Parser.{Parser}
 use Rattle.routines.specs.declared.state.Step.{Step}
 use Rattle.routines.specs.declared.state.Step.the-variants.{Went, Refused}
@@ -82,7 +82,7 @@ module _ {t : Tables} {rule f : Rule} {rest : List Rule} {gain lift : ℕ} {scop
       })
 
   -- the code took other marks, in a list of the same scope
-  pub remarks : {z : Parser} (start last : Mark) → z ≡ remarked u start last → MarkOk start (u .builder) → MarkOk last (u .builder) → ((n d : ℕ) → f n d (posOf u v) ≡ went (posOf (remarked u start last) v))
+  pub remarks : {z : Parser} (start last : KeptMark) → z ≡ remarked u start last → MarkOk start (u .builder) → MarkOk last (u .builder) → ((n d : ℕ) → f n d (posOf u v) ≡ went (posOf (remarked u start last) v))
       → Walk t rule rest gain lift scope s m z v
   remarks start last e first second is = rw (w .scope-is) at (relists (record { scope = u .list .scope; start = start; last = last }) e first second is)
 

@@ -1,10 +1,11 @@
--- Marks: those that are made here, none, and what last is behind an item. Assumes nothing.
+-- Marks that are made here, and what last is behind an item. Assumes nothing.
 use mathlib.Core.Path.{_≡_, refl}
 use mathlib.Core.Bool.{Bool, true, false}
 use mathlib.Core.List.{List}
 use mathlib.Core.Logic.{inl, inr}
 use Prim.Native.Nat.{ℕ, _<_}
 use borrow.Author.Tests.{ne-eqb}
+use lib.Dec.{eqb}
 use native.Mathlib.Omega.{arith}
 use Rattle.rules.specs.Checks.{Tables, shapeOf}
 use Rattle.rules.specs.Items.{attachable}
@@ -12,10 +13,9 @@ use Rattle.rules.specs.Tables.{kindAt}
 use Rattle.items.specs.Items.{shapeFor}
 use Rattle.items.specs.declared.shape.Shape.{Shape}
 use Rattle.routines.specs.Change.{remarked}
-use Rattle.builder.specs.declared.GreenNodeBuilder.{GreenNodeBuilder}
 use Rattle.routines.specs.Contract.{MarkOk, Ready}
-use Rattle.routines.specs.Stands.{Buffers, isNothing, noMark}
-use Rattle.routines.specs.declared.state.Mark.{Mark}
+use Rattle.routines.specs.Stands.{Buffers}
+use Rattle.routines.specs.declared.state.KeptMark.{KeptMark}
 use Rattle.routines.specs.declared.state.Parser.{Parser}
 use Rattle.parser.specs.Member.{LastAfter, markHere}
 
@@ -24,15 +24,11 @@ pub mark-here : {t : Tables} {p : Parser} {m : Buffers} → Ready t p m → Mark
 mark-here ready = let children = ready .steady .fits .children in record { children = omega arith; row = omega arith }
 
 -- it is one where a row was written before it, so where a node is open
-there : (p : Parser) → 0 < p .builder .rows → isNothing (markHere p) ≡ false
+there : (p : Parser) → 0 < p .builder .rows → eqb (markHere p .row) 0 ≡ false
 there p written = ne-eqb (p .builder .rows) 0 (λ e. omega arith)
 
-pub is-mark : {t : Tables} {p : Parser} {m : Buffers} → Ready t p m → isNothing (markHere p) ≡ false
+pub is-mark : {t : Tables} {p : Parser} {m : Buffers} → Ready t p m → eqb (markHere p .row) 0 ≡ false
 is-mark {p = p} ready = let node = ready .within .node in there p (omega arith)
-
--- no mark is good everywhere
-pub no-mark : (b : GreenNodeBuilder) → MarkOk noMark b
-no-mark b = record { children = omega arith; row = omega arith }
 
 -- attachable, asked of a kind and the code's shape
 abbrev pub attached : ℕ → Shape → Bool
@@ -47,7 +43,7 @@ module _ {tokens shapes : List ℕ} {shape : Shape} (p q : Parser)
       let same : shapeOf t (p .lexer .token) ≡ shapeOf (record { text = t .text; tokens = tokens; shapes = shapes; states = t .states }) (p .lexer .token) = rw (← seen-tokens, ← seen-shapes) refl in
       rw (same, ← shape-is (t .text) (t .states), seen-tokens) e
 
-  pub last-moved : {mark : Mark} {r : Parser} → attached (kindAt tokens (p .lexer .token)) shape ≡ true → 0 < p .builder .rows → mark ≡ markHere p → r ≡ remarked q (q .list .start) mark → LastAfter tokens shapes p q r
+  pub last-moved : {mark : KeptMark} {r : Parser} → attached (kindAt tokens (p .lexer .token)) shape ≡ true → 0 < p .builder .rows → mark ≡ markHere p → r ≡ remarked q (q .list .start) mark → LastAfter tokens shapes p q r
   last-moved said written mark-is r-is =
       rw (r-is, mark-is)
       (record { is = λ t seen-tokens seen-shapes n m v. rw (asks t seen-tokens seen-shapes true said, there p written); last = inr refl; same = refl })

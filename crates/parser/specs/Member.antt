@@ -3,31 +3,25 @@ use Prim.Native.Nat.{ℕ, _<_}
 use mathlib.Core.Bool.{Bool, true, false, cond}
 use mathlib.Core.Logic.{_⊎_}
 use mathlib.Core.Path.{_≡_}
-use mathlib.Core.List.{List, [], _∷_}
-use mathlib.Core.Option.{Option, none, some}
+use mathlib.Core.List.{List}
+use mathlib.Core.Option.{Option}
 use Rattle.rules.specs.Checks.{Tables, shapeOf, sourceOf}
-use Rattle.rules.specs.Flat.{flat, Mark, frameOf}
-use Rattle.rules.specs.Items.{greedyStops, ofClass}
-use Rattle.rules.specs.Outcome.{Out, went}
-use Rattle.rules.specs.Position.{Rule, Shape, Source, asked, steps, start, wrap, finish, withMarks, holdingNone}
-use Rattle.rules.specs.SyntaxKind.{ItemCmd, ItemEnd, ItemAttachComponent, ClauseArgument}
-use Rattle.rules.specs.Token.{Word, EndEnvironment, Right}
-use denote.Ref.{RefT}
-use denote.Triple.Both.{Both}
-use lib.Dec.{eqb}
-use Rattle.rules.specs.Matcher.{Matcher}
-use Rattle.rules.specs.Reading.{content, contentAt, items, itemList, lastAfter, orElse, arguments, matchArguments, greedyArgument, commandNode, attachmentNode}
-use Rattle.rules.specs.Routines.{next, turns, eat, oneIn, singleChar, clauseLr, startCommandAt, ignoreHoldingTrivia, extractHoldingTrivia}
+use Rattle.rules.specs.Flat.{flat}
+use Rattle.rules.specs.Items.{greedyStops, nameOnly, ofClass}
+use Rattle.rules.specs.Matcher.{Matcher, isGreedy, startMatch}
+use Rattle.rules.specs.Outcome.{Out}
+use Rattle.rules.specs.Position.{Rule, Shape, asked}
+use Rattle.rules.specs.Reading.{content, contentAt, items, itemList, lastAfter, arguments, greedyItems}
+use Rattle.rules.specs.Routines.{turns}
 use Rattle.rules.specs.Scope.{Scope, stops}
-use Rattle.rules.specs.Tables.{tokenCount, kindAt}
-use Rattle.items.specs.declared.choice.Piece.{Piece}
-use Rattle.items.specs.declared.choice.Piece.the-variants.{Character, Brace, Item}
-use Rattle.items.specs.declared.choice.Piece.the-variants.{Within as Within-scope}
-use Rattle.routines.specs.Stands.{Buffers, Here, posOf, noMark, isNothing}
+use Rattle.rules.specs.Tables.{tokenCount}
+use Rattle.items.specs.Items.{shapeFor}
+use Rattle.items.specs.declared.shape.Shape.{Shape as CodeShape}
+use Rattle.routines.specs.Stands.{Buffers, Here, posOf, markAt, keptOf, markIn, noMark}
 use Rattle.routines.specs.Change.{relisted, remarked}
-use Rattle.routines.specs.Contract.{Runs}
-use Rattle.routines.specs.declared.state.Mark.{Mark as CodeMark}
-use Rattle.routines.specs.declared.state.ListState.{ListState}
+use Rattle.routines.specs.Contract.{Runs, Slice, Moments}
+pub use Rattle.routines.specs.Contract.{buffers, lent}
+use Rattle.routines.specs.declared.state.KeptMark.{KeptMark}
 use Rattle.syntax.specs.ParseScope.{numberOf, scopeOf}
 use Rattle.parser.specs.declared.lists.Extent.{Extent}
 use Rattle.parser.specs.declared.lists.Extent.the-variants.{List as Scoped, Greedy, Item as OneItem}
@@ -36,9 +30,6 @@ use Rattle.routines.specs.declared.state.Step.{Step}
 
 abbrev pub tables : List ℕ → List ℕ → List ℕ → List ℕ → Tables
 tables text tokens shapes states = record { text = text; tokens = tokens; shapes = shapes; states = states }
-
-abbrev pub buffers : List ℕ → List ℕ → Buffers
-buffers tree dropped = record { tree = tree; dropped = dropped }
 
 -- a rule that takes the routine for items inside, over the room
 abbrev pub Inside : Type 0
@@ -58,19 +49,9 @@ Within t gain rule p m r v = Runs t gain (λ n d. rule n (content (flat n) (sour
 
 -- ---- the same over the parameters themselves: the tables, the buffers and the state, in the order of the code
 
--- a parameter as a `requires` has it, and as an `ensures` has it
-abbrev pub Slice : Type 0
-Slice = RefT (List ℕ)
-
-abbrev pub Moments : Type 0
-Moments = Both Slice Slice
-
--- at the entry: the tables, and the buffers
+-- the tables, at the entry
 abbrev pub given : Slice → Slice → Slice → Slice → Tables
 given text tokens shapes states = tables (text .now) (tokens .now) (shapes .now) (states .now)
-
-abbrev pub lent : Slice → Slice → Buffers
-lent tree dropped = buffers (tree .now) (dropped .now)
 
 -- what a member that opens a node before it reads an item comes to
 abbrev pub Opened : Moments → Moments → Moments → Moments → Moments → Moments → Parser → Step → ℕ → (Tables → Inside) → Type 0
@@ -99,13 +80,9 @@ stopsOf false scope = stops scope
 abbrev pub goesOn : Bool → Scope → ℕ → Bool
 goesOn greedy scope kind = cond (stopsOf greedy scope kind) false true
 
--- a mark that is made at p
-abbrev pub markHere : Parser → CodeMark
-markHere p = record { children = p .builder .children; row = p .builder .rows }
-
--- a list of a scope that begins at p
-abbrev pub listed : ℕ → Parser → ListState
-listed scope p = record { scope = scope; start = markHere p; last = noMark }
+-- a mark that is made at p, as the state keeps it
+abbrev pub markHere : Parser → KeptMark
+markHere p = keptOf (markAt p)
 
 -- the state behind an item that began at p and ended at q: by the rule, and the list's scope and start are q's
 pub record LastAfter (tokens shapes : List ℕ) (p q r : Parser) : Type 0 where
@@ -139,14 +116,14 @@ more OneItem first scope kind = first
 
 -- what the first item is read in
 abbrev pub opened : Extent → Parser → Parser
-opened (Scoped scope) p = relisted p (listed (numberOf scope) p)
-opened Greedy p = relisted p (listed (p .list .scope) p)
+opened (Scoped scope) p = relisted p (record { scope = numberOf scope; start = markHere p; last = noMark })
+opened Greedy p = remarked p (markHere p) noMark
 opened OneItem p = p
 
 -- what is given back behind the last item
 abbrev pub closed : Extent → Parser → Parser → Parser
 closed (Scoped scope) p q = relisted q (p .list)
-closed Greedy p q = remarked q (p .list .start) noMark
+closed Greedy p q = remarked q (keptOf (markIn (p .list .start))) noMark
 closed OneItem p q = q
 
 -- the state behind an item
@@ -161,20 +138,10 @@ itemsOf t (Scoped scope) n inner q = listItems t false n inner q
 itemsOf t Greedy n inner q = listItems t true n inner q
 itemsOf t OneItem n inner q = inner false q
 
--- all that a greedy command takes, with a start mark of its own
-abbrev pub greedyItems : Tables → Inside
-greedyItems t n inner q =
-    steps
-    ((λ u. went (withMarks (flat n) (some (flat n .mark (u .built))) none u))
-    ∷ (λ u. listItems t true n inner u)
-    ∷ (λ u. went (withMarks (flat n) (q .list .start) none u))
-    ∷ [])
-    q
-
 -- what an extent reads
 abbrev pub insideOf : Tables → Extent → Inside
 insideOf t (Scoped scope) n inner q = itemList (flat n) (sourceOf t) inner (scopeOf scope) q
-insideOf t Greedy n inner q = greedyItems t n inner q
+insideOf t Greedy n inner q = greedyItems (flat n) (sourceOf t) inner q
 insideOf t OneItem n inner q = inner false q
 
 -- ---- arguments
@@ -183,73 +150,13 @@ insideOf t OneItem n inner q = inner false q
 abbrev pub allArguments : Tables → Matcher → Inside
 allArguments t m n inner q = arguments (flat n) (sourceOf t) inner (turns (flat n) (sourceOf t) q) m q
 
--- a Word is next where a character of it is to be taken
-abbrev pub WordIf : Piece → Tables → Parser → Type 0
-WordIf Character t p = kindAt (t .tokens) (p .lexer .token) ≡ Word
-WordIf (Within-scope scope) t p = Unit {0}
-WordIf Brace t p = Unit {0}
-WordIf Item t p = Unit {0}
-
--- ---- commands and attachments
-
--- a Word
-abbrev pub isWord : ℕ → Bool
-isWord kind = eqb kind Word
-
--- a greedy command, around what stands from a mark on if there is one
-abbrev pub greedyCommand : Tables → Option Mark → Inside
-greedyCommand t at n inner q =
-    steps (startCommandAt (flat n) (sourceOf t) at ∷ commandNode (flat n) (sourceOf t) inner (greedyArgument (flat n) (sourceOf t) inner) (frameOf (q .built .tree)) ∷ []) q
-
--- a command whose arguments a matcher takes
-abbrev pub matchedCommand : Tables → Matcher → Inside
-matchedCommand t m n inner q =
-    steps
-    (start (flat n) ItemCmd
-    ∷ commandNode (flat n) (sourceOf t) inner (matchArguments (flat n) (sourceOf t) inner m) (frameOf (q .built .tree))
-    ∷ extractHoldingTrivia (flat n) (sourceOf t)
-    ∷ [])
-    q
-
--- an attachment's node begins, around what stands from a mark on if there is one
-abbrev pub startAttachAt : (n : ℕ) → Option Mark → Here → Out Here
-startAttachAt n none q = start (flat n) ItemAttachComponent q
-startAttachAt n (some m) q = wrap (flat n) ItemAttachComponent m q
-
-abbrev pub attachmentAt : Tables → Bool → Option Mark → Inside
-attachmentAt t hasScript at n inner q = steps (startAttachAt n at ∷ attachmentNode (flat n) (sourceOf t) inner hasScript (frameOf (q .built .tree)) ∷ []) q
+-- ---- commands
 
 -- the shape of the next token, where one of this class is asked for
 abbrev pub shapeIn : Tables → ℕ → Parser → Shape
 shapeIn t class p = ofClass class (shapeOf t (p .lexer .token))
 
--- a mark where one is, else another
-abbrev pub orMark : CodeMark → CodeMark → CodeMark
-orMark mark other = cond (isNothing mark) other mark
-
--- ---- rules with no item inside, as the code's functions outside the cycle follow them
-
--- the end of an environment, where it is next
-abbrev pub endOf : Source → ℕ → Here → Out Here
-endOf s n q = cond (next (flat n) s (eqb EndEnvironment) q) (oneIn (flat n) s ItemEnd q) (went q)
-
--- the right delimiter, where it is next
-abbrev pub rightOf : Source → ℕ → Here → Out Here
-rightOf s n q = cond (next (flat n) s (eqb Right) q) (clauseLr (flat n) s q) (went q)
-
--- a command that wraps what stands before it
-abbrev pub leftOne : Source → ℕ → Here → Out Here
-leftOne s n q =
-    steps (startCommandAt (flat n) s (orElse (flat n) s (q .list .last) (q .list .start)) ∷ eat (flat n) s ∷ finish (flat n) ItemCmd (frameOf (q .built .tree)) ∷ []) q
-
--- one character of a Word as an argument
-abbrev pub aCharacter : Source → ℕ → Here → Out Here
-aCharacter s n q =
-    steps
-    (ignoreHoldingTrivia (flat n) s
-    ∷ start (flat n) ClauseArgument
-    ∷ singleChar (flat n) s
-    ∷ finish (flat n) ClauseArgument (frameOf (q .built .tree))
-    ∷ (λ u. went (holdingNone (flat n) u))
-    ∷ [])
-    q
+-- a shape whose arguments a matcher takes: a name alone has none, and a greedy one takes all
+pub record Matches (s : CodeShape) : Type 0 where
+  pub asks : nameOnly (shapeFor s) ≡ false
+  pub some : isGreedy (startMatch (s .form) (s .value)) ≡ false

@@ -8,10 +8,9 @@ use Rattle.rules.specs.Flat.{flat, empty}
 use Rattle.rules.specs.Limits.{treeWidth, droppedWidth}
 use Rattle.rules.specs.Reading.{parse}
 use Rattle.rules.specs.Tables.{tokenCount}
-use Rattle.syntax.specs.ParseScope.{numberOf}
 use Rattle.syntax.specs.declared.parse_scope.ParseScope.the-variants.{Root}
 use Rattle.routines.specs.Contract.{Good, Gone}
-use Rattle.routines.specs.Stands.{Buffers, noMark, outOf}
+use Rattle.routines.specs.Stands.{Buffers, listAt, outOf}
 use Rattle.routines.specs.declared.state.Parser.{Parser}
 use Rattle.routines.specs.declared.state.Step.{Step}
 
@@ -21,7 +20,7 @@ atRoot =
     record {
       lexer = record { token = 0; taken = 0 };
       held = 0;
-      list = record { scope = numberOf Root; start = noMark; last = noMark };
+      list = listAt Root;
       builder = record { rows = 0; leaves = 0; depth = 0; children = 0; first = 0; node = 0 };
       dropped = 0;
     }

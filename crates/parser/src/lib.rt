@@ -13,7 +13,7 @@ ghost use Rattle.items.specs.Items.{shapeFor, pieceFor};
 ghost use Rattle.routines.specs.Contract.{MarkOk, Ready, Holding};
 ghost use Rattle.routines.specs.Stands.{keptOf, optionOf};
 ghost use Rattle.syntax.specs.ParseScope.{scopeOf};
-ghost use Rattle.parser.specs.Member.{given, lent, Opened, Stayed, Next, NextIf, gainOf, itemsOf, insideOf, allArguments, shapeIn};
+ghost use Rattle.parser.specs.Member.{given, lent, Opened, Stayed, Matches, Next, NextIf, gainOf, itemsOf, insideOf, allArguments, shapeIn};
 use arg_match::ArgMatcher;
 use arg_match::Argument;
 use arg_match::Tried;

@@ -1,6 +1,6 @@
 // The root: `parse`, which reads all tokens from nothing.
 ghost use mathlib.Core.Path.{_≡_};
-ghost use Rattle.parser.specs.Member.{tables, buffers};
+ghost use Rattle.parser.specs.Member.{given, lent};
 ghost use Rattle.parser.specs.Root.{atRoot, Readable, Parsed};
 use crate::inside;
 use crate::lists::Extent;
@@ -34,8 +34,8 @@ pub fn parse(
     tree: &mut [u32],
     dropped: &mut [u32],
 ) -> Step
-    requires { ⌜ Readable (tables (now text) (now tokens) (now shapes) (now states)) (now dropped) ⌝ }
-    ensures { λ r. ⌜ Parsed (tables (now (text .entry)) (now (tokens .entry)) (now (shapes .entry)) (now (states .entry))) (buffers (now (tree .entry)) (now (dropped .entry))) r (buffers (now (tree .exit)) (now (dropped .exit))) ⌝ }
+    requires { ⌜ Readable (given text tokens shapes states) (now dropped) ⌝ }
+    ensures { λ r. let t = given (text .entry) (tokens .entry) (shapes .entry) (states .entry) in ⌜ Parsed t (lent (tree .entry) (dropped .entry)) r (lent (tree .exit) (dropped .exit)) ⌝ }
 {
     let p = at_start();
     let opened = p.start_node(tree, SyntaxKind::SCOPE_ROOT);
