@@ -8,14 +8,14 @@ use lib.ListN.{length}
 use Rattle.rules.specs.Characters.{charLength}
 use Rattle.rules.specs.Checks.{Tables, sourceOf}
 use Rattle.rules.specs.Cursor.{Cursor, peekText, restStart, consumed}
-use Rattle.rules.specs.Flat.{Built, flat}
+use Rattle.rules.specs.Flat.{Built, Frame, flat}
 use Rattle.rules.specs.Items.{Piece, character}
 use Rattle.rules.specs.Limits.{nodes}
 use Rattle.rules.specs.Outcome.{Out, went, refused, bind}
 use Rattle.rules.specs.Position as position
 use Rattle.rules.specs.Position.{Rule, Source, steps, building}
 use Rattle.rules.specs.Reading as spec
-use Rattle.rules.specs.Routines.{singleChar, ignoreHoldingTrivia}
+use Rattle.rules.specs.Routines.{argumentBegins, argumentEnds, argumentNode, ignoreHoldingTrivia, singleChar}
 use Rattle.rules.specs.SyntaxKind.{ClauseArgument, TokenWord}
 use Rattle.lexer.specs.Reading.{cursorOf}
 use Rattle.routines.specs.Stands.{Buffers, Here, posOf, outOf}
@@ -48,6 +48,11 @@ last-steps Q f rest q k = then-steps (λ y. Unit {0}) Q f rest q (any (f q)) (λ
     any (went y) = tt
     any (refused number place) = tt
 
+-- a step alone
+one-step : (Q : Here → Type 0) (f : Here → Out Here) (q : Here) → Always Q (f q) → Always Q (steps (f ∷ []) q)
+unfolding steps
+one-step Q f q h = then-steps Q Q f [] q h (λ y k. k)
+
 -- the last step of all
 at-last : (Q : Here → Type 0) (g : Here → Here) (q : Here) → Q (g q) → Always Q (steps ((λ y. went (g y)) ∷ []) q)
 unfolding steps
@@ -57,11 +62,16 @@ at-last Q g q h = h
 
 module _ (n : ℕ) (s : Source) (inner : Bool → Rule (flat n)) where
   -- nothing is held behind it
-  frees : (what : Piece) (q : Here) → Always (λ y. y .held ≡ y .lexer .token) (spec.argument (flat n) s inner what q)
-  unfolding spec.argument
-  frees what q =
-      let Unheld : Here → Type 0 = λ y. y .held ≡ y .lexer .token in
-      last-steps Unheld _ _ q (λ a. last-steps Unheld _ _ a (λ b. last-steps Unheld _ _ b (λ c. last-steps Unheld _ _ c (λ d. at-last Unheld (position.holdingNone (flat n)) d refl))))
+  abbrev Unheld : Here → Type 0
+  Unheld y = y .held ≡ y .lexer .token
+
+  end-frees : (frame : Frame) (q : Here) → Always Unheld (argumentEnds (flat n) s frame q)
+  unfolding argumentEnds
+  end-frees frame q = last-steps Unheld _ _ q (λ a. at-last Unheld (position.holdingNone (flat n)) a refl)
+
+  frees : (what : Piece) (q : Here) → Always Unheld (spec.argument (flat n) s inner what q)
+  unfolding spec.argument argumentNode
+  frees what q = last-steps Unheld _ _ q (λ a. last-steps Unheld _ _ a (λ b. one-step Unheld _ b (end-frees (flat n .frame (q .built)) b)))
 
   -- an operation of the builder passes nothing
   building-keeps : (c : Cursor) (p : Here) (o : Out Built) → p .lexer ≡ c → Always (λ y. y .lexer ≡ c) (building (flat n) p o)
@@ -84,16 +94,28 @@ module _ (n : ℕ) (s : Source) (inner : Bool → Rule (flat n)) where
       moved (refused number place) = tt
 
   -- a character is passed
+  begin-keeps : (q : Here) → Always (λ y. y .lexer ≡ q .lexer) (argumentBegins (flat n) s q)
+  unfolding argumentBegins ignoreHoldingTrivia
+  begin-keeps q =
+      let Same : Here → Type 0 = λ y. y .lexer ≡ q .lexer in
+      then-steps Same Same _ _ q refl
+      (λ a here. one-step Same _ a (building-keeps (q .lexer) a (flat n .start (a .lexer .token) ClauseArgument (a .built)) here))
+
+  end-keeps : (frame : Frame) (c : Cursor) (q : Here) → q .lexer ≡ c → Always (λ y. y .lexer ≡ c) (argumentEnds (flat n) s frame q)
+  unfolding argumentEnds
+  end-keeps frame c q here =
+      let Same : Here → Type 0 = λ y. y .lexer ≡ c in
+      then-steps Same Same _ _ q (building-keeps c q (flat n .finish (q .lexer .token) ClauseArgument frame (q .built)) here)
+      (λ a still. at-last Same (position.holdingNone (flat n)) a still)
+
   passes-one : (q : Here) → Always (λ y. y .lexer ≡ behind-one (q .lexer)) (spec.argument (flat n) s inner character q)
-  unfolding spec.argument spec.piece ignoreHoldingTrivia
+  unfolding spec.argument argumentNode spec.piece
   passes-one q =
       let Same : Here → Type 0 = λ y. y .lexer ≡ q .lexer in
       let Behind : Here → Type 0 = λ y. y .lexer ≡ behind-one (q .lexer) in
-      then-steps Same Behind _ _ q refl (λ a here.
-      then-steps Same Behind _ _ a (building-keeps (q .lexer) a (flat n .start (a .lexer .token) ClauseArgument (a .built)) here) (λ b same.
-      then-steps Behind Behind _ _ b (one-character (q .lexer) b same) (λ c moved.
-      then-steps Behind Behind _ _ c (building-keeps (behind-one (q .lexer)) c (flat n .finish (c .lexer .token) ClauseArgument (flat n .frame (q .built)) (c .built)) moved) (λ d still.
-      at-last Behind (position.holdingNone (flat n)) d still))))
+      then-steps Same Behind _ _ q (begin-keeps q) (λ a same.
+      then-steps Behind Behind _ _ a (one-character (q .lexer) a same) (λ b moved.
+      one-step Behind _ b (end-keeps (flat n .frame (q .built)) (behind-one (q .lexer)) b moved)))
 
 -- ---- the same of the code's state
 

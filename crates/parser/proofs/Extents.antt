@@ -15,19 +15,20 @@ use Rattle.syntax.specs.ParseScope.{numberOf, scopeOf}
 use Rattle.syntax.specs.declared.parse_scope.ParseScope.{ParseScope}
 use Rattle.routines.specs.Change.{relisted}
 use Rattle.routines.specs.Contract.{MarkOk, Ready, Runs}
-use Rattle.routines.specs.Stands.{Buffers, Here, noMark, markOf, listOf, posOf}
+use Rattle.routines.specs.Stands.{Buffers, Here, noMark, markOf, listOf, posOf, keptOf, markIn}
 use Rattle.routines.specs.declared.state.ListState.{ListState}
 use Rattle.routines.specs.declared.state.Parser.{Parser}
 use Rattle.routines.specs.declared.state.Step.{Step}
 use Rattle.routines.specs.declared.state.Step.the-variants.{Went}
 use Rattle.routines.proofs.Building.{mark-more}
 use Rattle.routines.proofs.Walk.{Rule, line, Walk, begins, passes, stops, arrives, Stopped}
-use Rattle.parser.specs.Member.{NextIf, listed, gainOf, innerAt, listItems, itemsOf, greedyItems, insideOf, opened, closed}
+use Rattle.parser.specs.Member.{NextIf, markHere, gainOf, innerAt, itemsOf, insideOf, opened, closed}
 use Rattle.parser.specs.declared.lists.Extent.{Extent}
 use Rattle.parser.specs.declared.lists.Extent.the-variants.{List as Scoped, Greedy, Item as OneItem}
+use Rattle.routines.proofs.Marks.{no-mark, taken-ok, kept-again}
 use Rattle.parser.proofs.ItemLoop.{body}
 use Rattle.parser.proofs.Cycle.{runs, relists, unnested}
-use Rattle.parser.proofs.Marks.{mark-here, is-mark, no-mark}
+use Rattle.parser.proofs.Marks.{mark-here, is-mark}
 
 -- ---- a list of its own
 
@@ -80,7 +81,7 @@ module _ {t : Tables} {p : Parser} {m : Buffers} (ready : Ready t p m) where
   unfolding spec.itemList steps line
   list-own scope =
       record {
-        list = listed (numberOf scope) p;
+        list = record { scope = numberOf scope; start = markHere p; last = noMark };
         start = mark-here ready;
         last = no-mark (p .builder);
         taking = λ n d q. went (withList (flat n) (record { scope = scopeOf scope; start = some (flat n .mark (q .built)); last = none }) q);
@@ -91,13 +92,13 @@ module _ {t : Tables} {p : Parser} {m : Buffers} (ready : Ready t p m) where
 
   -- all that a greedy command takes
   abbrev greedy-rule : Rule
-  greedy-rule n d = greedyItems t n (spec.content (flat n) (sourceOf t) (innerAt t n d))
+  greedy-rule n d = spec.greedyItems (flat n) (sourceOf t) (spec.content (flat n) (sourceOf t) (innerAt t n d))
 
   greedy-own : Own t true p m greedy-rule
-  unfolding steps line
+  unfolding spec.greedyItems steps line
   greedy-own =
       record {
-        list = listed (p .list .scope) p;
+        list = record { scope = p .list .scope; start = markHere p; last = noMark };
         start = mark-here ready;
         last = no-mark (p .builder);
         taking = λ n d q. went (withMarks (flat n) (some (flat n .mark (q .built))) none q);
@@ -117,39 +118,39 @@ module _ {t : Tables} {p : Parser} {m : Buffers} (ready : Ready t p m) where
   opened-next Greedy next = tt
   opened-next OneItem next = next
 
+  -- an extent's rule, and the rule of its loop, inside the node
+  abbrev whole : Extent → Rule
+  whole e n d = insideOf t e n (spec.content (flat n) (sourceOf t) (innerAt t n d))
+
+  abbrev loop : Extent → Rule
+  loop e n d = itemsOf t e n (spec.content (flat n) (sourceOf t) (innerAt t n d))
+
+  -- the loop's state at its begin is the one that the extent opens
+  abbrev Looped : Extent → Parser → Step → Buffers → Type 0
+  Looped e begun r x = Runs t (gainOf e) (λ n d. loop e n d (posOf begun m)) begun m r x
+
+  abbrev Read : Extent → Step → Buffers → Type 0
+  Read e r x = Runs t (gainOf e) (λ n d. whole e n d (posOf p m)) p m r x
+
   module _ (r : Step) (x : Buffers) where
-    pub inside-stops : (e : Extent) → Runs t (gainOf e) (λ n d. itemsOf t e n (spec.content (flat n) (sourceOf t) (innerAt t n d)) (posOf (opened e p) m)) (opened e p) m r x → Stopped r
-        → Runs t (gainOf e) (λ n d. insideOf t e n (spec.content (flat n) (sourceOf t) (innerAt t n d)) (posOf p m)) p m r x
+    stops-at : (e : Extent) → Looped e (opened e p) r x → Stopped r → Read e r x
     unfolding list-own greedy-own
-    inside-stops (Scoped scope) read st = own-stops ready (list-own scope) read st
-    inside-stops Greedy read st = own-stops ready greedy-own read st
-    inside-stops OneItem read st = read
+    stops-at (Scoped scope) read st = own-stops ready (list-own scope) read st
+    stops-at Greedy read st = own-stops ready greedy-own read st
+    stops-at OneItem read st = read
 
-    pub inside-closes : (q : Parser) → r ≡ Went q → (e : Extent) → Runs t (gainOf e) (λ n d. itemsOf t e n (spec.content (flat n) (sourceOf t) (innerAt t n d)) (posOf (opened e p) m)) (opened e p) m r x
-        → Runs t (gainOf e) (λ n d. insideOf t e n (spec.content (flat n) (sourceOf t) (innerAt t n d)) (posOf p m)) p m (Went (closed e p q)) x
+    pub inside-stops : (e : Extent) {begun : Parser} → begun ≡ opened e p → Looped e begun r x → Stopped r → Read e r x
+    inside-stops e is read st = stops-at e (rw is at read) st
+
+    closes-at : (q : Parser) → r ≡ Went q → (e : Extent) → Looped e (opened e p) r x → Read e (Went (closed e p q)) x
     unfolding list-own greedy-own
-    inside-closes q went-on (Scoped scope) read = own-closes ready (list-own scope) read went-on (p .list) refl (ready .steady .start) (ready .steady .last) (λ n d. refl)
-    inside-closes q went-on Greedy read =
+    closes-at q went-on (Scoped scope) read =
+        own-closes ready (list-own scope) read went-on (p .list) refl (ready .steady .start) (ready .steady .last) (λ n d. refl)
+    closes-at q went-on Greedy read =
         own-closes ready greedy-own read went-on
-        (record { scope = q .list .scope; start = p .list .start; last = noMark }) (read-all ready greedy-own read went-on .scope-is) (ready .steady .start) (no-mark (p .builder)) (λ n d. refl)
-    inside-closes q went-on OneItem read = rw went-on at read
+        (record { scope = q .list .scope; start = keptOf (markIn (p .list .start)); last = noMark }) (read-all ready greedy-own read went-on .scope-is)
+        (taken-ok (p .list .start) (p .builder) (ready .steady .start)) (no-mark (p .builder)) (λ n d. rw (kept-again (p .list .start)) refl)
+    closes-at q went-on OneItem read = rw went-on at read
 
--- ---- inside a greedy command's node
-
--- what is left of the node's rule is the extent and the node's end
-pub greedy-steps : (t : Tables) (n d : ℕ) (q : Here) (start : Option Mark) (end : Rule) → q .list .start ≡ start
-    → line
-    ((λ n d u. went (withMarks (flat n) (some (flat n .mark (u .built))) none u))
-    ∷ (λ n d. listItems t true n (innerAt t n d))
-    ∷ (λ n d u. went (withMarks (flat n) start none u))
-    ∷ end
-    ∷ [])
-    n d q
-    ≡ line ((λ n d. greedyItems t n (innerAt t n d)) ∷ end ∷ []) n d q
-unfolding steps line
-greedy-steps t n d q start end same =
-    rw (← same)
-    (sym
-    (unnested
-    ((λ n d u. went (withMarks (flat n) (some (flat n .mark (u .built))) none u)) ∷ (λ n d. listItems t true n (innerAt t n d)) ∷ (λ n d u. went (withMarks (flat n) (q .list .start) none u)) ∷ [])
-    (end ∷ []) n d q))
+    pub inside-closes : (q : Parser) → r ≡ Went q → (e : Extent) {begun : Parser} → begun ≡ opened e p → Looped e begun r x → Read e (Went (closed e p q)) x
+    inside-closes q went-on e is read = closes-at q went-on e (rw is at read)

@@ -22,7 +22,7 @@ use Rattle.routines.specs.declared.state.Step.{Step}
 use Rattle.routines.specs.declared.state.Step.the-variants.{Went, Refused}
 use Rattle.routines.proofs.Walk.{Rule, line, Walk, Call, Stopped, stop, stopped, gone-map, passed-then, steps-on, stops-is, leaves}
 use Rattle.parser.specs.Member.{innerAt}
-use Rattle.parser.proofs.Marks.{no-mark}
+use Rattle.routines.proofs.Marks.{no-mark}
 use Rattle.parser.specs.Root.{atRoot, Readable, Written, Parsed}
 
 -- the rule, as its steps

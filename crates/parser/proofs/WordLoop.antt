@@ -14,6 +14,7 @@ use Rattle.rules.specs.Items.{ends, character, ifTried}
 use Rattle.rules.specs.Matcher.{Matcher, Tried, accepted, term, tryMatch}
 use Rattle.rules.specs.Matcher as matcher
 use Rattle.rules.specs.Reading as spec
+use Rattle.rules.specs.Routines.{argumentNode, singleChar}
 use Rattle.rules.specs.Tables.{kindAt}
 use Rattle.rules.specs.Token.{Word}
 use Rattle.lexer.specs.Reading.{cursorOf}
@@ -25,14 +26,14 @@ use Rattle.routines.specs.declared.state.Parser.{Parser}
 use Rattle.routines.specs.declared.state.Step.{Step}
 use Rattle.routines.specs.declared.state.Step.the-variants.{Went}
 use Rattle.routines.proofs.Walk.{Stopped}
-use Rattle.parser.specs.Member.{Next, innerAt, allArguments, aCharacter}
+use Rattle.parser.specs.Member.{Next, innerAt, allArguments}
 use Rattle.parser.proofs.Choices.{choose-word}
 use Rattle.parser.proofs.Cycle.{runs-as, ran-runs}
 use Rattle.parser.proofs.AfterArgument.{character-behind}
 use Rattle.parser.proofs.ArgumentLoop.{Far, by-kind, arguments-end, arguments-stop, arguments-take, arguments-take-less}
 
 -- one character as an argument, as the routine outside the cycle reads it, is an argument of that piece
-pub as-argument : {t : Tables} {sees : Tables → Type 0} {q : Parser} {v : Buffers} {r : Step} {x : Buffers} → sees t → Ready t q v → Ran sees 1 (λ s n. aCharacter s n) q v r x
+pub as-argument : {t : Tables} {sees : Tables → Type 0} {q : Parser} {v : Buffers} {r : Step} {x : Buffers} → sees t → Ready t q v → Ran sees 1 (λ s n. argumentNode (flat n) s (singleChar (flat n) s)) q v r x
     → Runs t 1 (λ n d. spec.argument (flat n) (sourceOf t) (innerAt t n d) character (posOf q v)) q v r x
 unfolding spec.argument spec.piece
 as-argument seen ready k = runs-as (ran-runs seen ready k) (λ n d. refl)
@@ -75,7 +76,7 @@ module _ (t : Tables) where
       pub taking-known : Known (Sees word q) q v
       taking-known = record { t = t; seen = (refl, k .before some-left .is); ready = k .far .walk .ready }
 
-      module _ {next : Matcher} (e : accepted next ≡ tryMatch (t .states) m term) {r : Step} {x : Buffers} (ran : Ran (Sees word q) 1 (λ s n. aCharacter s n) q v r x) where
+      module _ {next : Matcher} (e : accepted next ≡ tryMatch (t .states) m term) {r : Step} {x : Buffers} (ran : Ran (Sees word q) 1 (λ s n. argumentNode (flat n) s (singleChar (flat n) s)) q v r x) where
         read : Runs t 1 (λ n d. spec.argument (flat n) (sourceOf t) (innerAt t n d) character (posOf q v)) q v r x
         read = as-argument (refl, k .before some-left .is) (k .far .walk .ready) ran
 

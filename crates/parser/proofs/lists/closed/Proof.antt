@@ -1,18 +1,19 @@
 -- `lists::closed` meets its contract: each arm is the rule at its extent. Assumes nothing.
 use borrow.Author.Needs.{needs}
-use mathlib.Core.Path.{_∙_, ap}
+use mathlib.Core.Path.{_≡_, _∙_, ap}
 use Rattle.routines.specs.Change.{remarked}
+use Rattle.routines.specs.Stands.{keptOf, markIn, noMark}
+use Rattle.routines.specs.declared.state.Mark.{Mark}
+use Rattle.routines.specs.declared.state.Parser.{Parser}
 use Rattle.parser.proofs.lists.closed.Statement.{statement}
 use Rattle.parser.proofs.lists.closed.Tie as tie
+mod At
+use At.*
 
-returns : tie.Need-returns
-returns c = rw (c .before .enum-told .given .1) (c .with-list .ensures)
-
-returns-2 : tie.Need-returns-2
-returns-2 c = rw (c .before .before .enum-told2 .given .1) (c .with-marks .ensures ∙ ap (λ last. remarked (c .before .before .before .before .before .before .args .q) (c .before .before .before .before .before .before .args .p .list .start) last) (c .before .nothing .ensures))
-
-returns-3 : tie.Need-returns-3
-returns-3 c = rw (c .enum-told3 .given .1)
+-- the start mark is the parent's
+given-back : (p q r : Parser) (start : Mark) → r ≡ remarked q (keptOf start) noMark → start ≡ markIn (p .list .start)
+    → r ≡ remarked q (keptOf (markIn (p .list .start))) noMark
+given-back p q r start is e = is ∙ ap (λ m. remarked q (keptOf m) noMark) e
 
 pub closed-spec : {M : Type 1} → statement M
 closed-spec =
@@ -24,6 +25,6 @@ closed-spec =
     (λ c κs. search needs)
     (λ c κs. search needs)
     (λ c. search needs)
-    returns
-    returns-2
-    returns-3)
+    (λ c. rw (returns→told c .enum-told .given .1) (c .with-list .ensures))
+    (λ c. rw (returns-2→told2 c .enum-told2 .given .1) (given-back (returns-2→entry c .args .p) (returns-2→entry c .args .q) _ _ (c .with-marks .ensures) (returns-2→list-start c .list-start .ensures)))
+    (λ c. rw (c .enum-told3 .given .1)))

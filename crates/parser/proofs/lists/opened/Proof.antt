@@ -1,19 +1,25 @@
 -- `lists::opened` meets its contract: each arm is the rule at its extent. Assumes nothing.
 use borrow.Author.Needs.{needs}
-use mathlib.Core.Path.{_∙_, ap}
-use Rattle.routines.specs.Change.{relisted}
-use Rattle.parser.specs.Member.{listed}
+use mathlib.Core.Path.{_≡_, _∙_, ap}
+use Rattle.routines.specs.Change.{relisted, remarked}
+use Rattle.routines.specs.Stands.{keptOf, markAt, noMark}
+use Rattle.routines.specs.declared.state.Mark.{Mark}
+use Rattle.routines.specs.declared.state.Parser.{Parser}
+use Rattle.syntax.specs.ParseScope.{numberOf}
+use Rattle.syntax.specs.declared.parse_scope.ParseScope.{ParseScope}
+use Rattle.parser.specs.Member.{markHere}
 use Rattle.parser.proofs.lists.opened.Statement.{statement}
 use Rattle.parser.proofs.lists.opened.Tie as tie
+mod At
+use At.*
 
-returns : tie.Need-returns
-returns c = rw (c .before .before .before .extent .given .1) (c .new-list .ensures ∙ ap (λ n. relisted (c .before .before .before .before .before .before .args .p) (listed n (c .before .before .before .before .before .before .args .p))) (c .before .number .ensures))
+-- the start mark is the one here
+listed : (p r : Parser) (scope : ParseScope) (here : Mark) → r ≡ relisted p (record { scope = numberOf scope; start = keptOf here; last = noMark }) → here ≡ markAt p
+    → r ≡ relisted p (record { scope = numberOf scope; start = markHere p; last = noMark })
+listed p r scope here is e = is ∙ ap (λ m. relisted p (record { scope = numberOf scope; start = keptOf m; last = noMark })) e
 
-returns-2 : tie.Need-returns-2
-returns-2 c = rw (c .before .enum-told .given .1) (c .new-list2 .ensures)
-
-returns-3 : tie.Need-returns-3
-returns-3 c = rw (c .enum-told2 .given .1)
+marked : (p r : Parser) (here : Mark) → r ≡ remarked p (keptOf here) noMark → here ≡ markAt p → r ≡ remarked p (markHere p) noMark
+marked p r here is e = is ∙ ap (λ m. remarked p (keptOf m) noMark) e
 
 pub opened-spec : {M : Type 1} → statement M
 opened-spec =
@@ -24,7 +30,8 @@ opened-spec =
     (λ c κs. search needs)
     (λ c. search needs)
     (λ c κs. search needs)
+    (λ c κs. search needs)
     (λ c. search needs)
-    returns
-    returns-2
-    returns-3)
+    (λ c. rw (returns→extent c .extent .given .1) (listed (returns→entry c .args .p) _ (returns→extent c .extent .given .0 .0) _ (c .with-scope .ensures) (returns→checkpoint c .checkpoint .ensures)))
+    (λ c. rw (returns-2→told c .enum-told .given .1) (marked (returns-2→entry c .args .p) _ _ (c .with-marks .ensures) (returns-2→checkpoint2 c .checkpoint2 .ensures)))
+    (λ c. rw (c .enum-told2 .given .1)))

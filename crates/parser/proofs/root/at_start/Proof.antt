@@ -19,7 +19,7 @@ builds-nothing b e =
     rw (ap (λ x. x .rows) e, ap (λ x. x .leaves) e, ap (λ x. x .depth) e, ap (λ x. x .children) e, ap (λ x. x .first) e, ap (λ x. x .node) e)
 
 returns : tie.Need-returns
-returns c = rw (begins-at _ (c .before .before .before .before .new .ensures), c .before .before .before .number .ensures, c .before .before .nothing .ensures, c .before .nothing2 .ensures, builds-nothing _ (c .new2 .ensures))
+returns c = rw (begins-at _ (c .before .before .new .ensures), c .before .new2 .ensures, builds-nothing _ (c .new3 .ensures))
 
 pub at-start-spec : {M : Type 1} → statement M
-at-start-spec = tie.close (tie.spec (λ c κs. search needs) (λ c κs. search needs) (λ c κs. search needs) (λ c κs. search needs) (λ c κs. search needs) returns)
+at-start-spec = tie.close (tie.spec (λ c κs. search needs) (λ c κs. search needs) (λ c κs. search needs) returns)

@@ -1,25 +1,32 @@
 -- `root::parse` meets its contract: by the root's walk, with the state before the first token. Assumes nothing.
-use mathlib.Core.Path.{_∙_}
+use mathlib.Core.Path.{_≡_, _∙_}
 use mathlib.Core.List.{List}
 use Prim.Native.Nat.{ℕ}
 use native.Mathlib.Omega.{arith}
 use borrow.Author.Needs.{needs}
 use lib.ListN.{drop}
-use Rattle.rules.specs.Checks.{Tables}
+use Rattle.rules.specs.Checks.{Tables, sourceOf}
+use Rattle.rules.specs.Scope
 use Rattle.rules.specs.Flat.{flat}
 use Rattle.rules.specs.Position as position
 use Rattle.rules.specs.Reading as spec
 use Rattle.rules.specs.SyntaxKind as kinds
-use Rattle.routines.specs.Contract.{Opens, Steady}
+use Rattle.routines.specs.Contract.{Left, Opens, Closes, Steady}
+use Rattle.builder.specs.Contract.{Fits}
+use Rattle.builder.specs.Stands as shown
+use Rattle.builder.specs.declared.Frame.{Frame}
 use Rattle.routines.specs.Stands.{Buffers}
 use Rattle.routines.specs.declared.state.Parser.{Parser}
-use Rattle.routines.proofs.Walk.{line, Walk, passes, closes}
+use Rattle.routines.specs.declared.state.Step.{Step}
+use Rattle.routines.proofs.Walk.{line, Walk, Call, passes, closes}
 use Rattle.parser.specs.Member.{tables, buffers}
 use Rattle.parser.specs.Root.{atRoot}
 use Rattle.parser.proofs.Cycle.{below}
 use Rattle.parser.proofs.FromRoot.{plan, root-steady, roots, root-refused, parsed-refused, parsed}
 use Rattle.parser.proofs.root.parse.Statement.{statement}
 use Rattle.parser.proofs.root.parse.Tie as tie
+mod At
+use At.*
 
 abbrev T : tie.Start → Tables
 T b = tables (b .args .text .now) (b .args .tokens .now) (b .args .shapes .now) (b .args .states .now)
@@ -34,56 +41,66 @@ Came b done u tree dropped = Walk (T b) (line (plan (T b))) (drop done (plan (T 
 entry : (c : tie.Start) → Steady (T c) atRoot (M c)
 entry c = root-steady (c .pre)
 
-opened : (c : tie.After-start-node) → Opens (λ n. position.start (flat n) kinds.ScopeRoot) atRoot (M (c .before .before .before .before .before .before .before .before .before)) (c .start-node .result) (buffers (c .start-node .last .1 .0) (c .before .before .before .before .before .before .before .before .before .args .dropped .now))
-opened c = rw (c .before .before .at-start .ensures) at (c .start-node .ensures (c .before .before .before .before .before .before .before .before .before .args .dropped .now))
+-- the state that the code begins with is the root's
+begins-at : (p : Parser) (r : Step) (tree after notes : List ℕ) → p ≡ atRoot
+    → ((notes : List ℕ) → Opens (λ n. position.start (flat n) kinds.ScopeRoot) p (buffers tree notes) r (buffers after notes))
+    → Opens (λ n. position.start (flat n) kinds.ScopeRoot) atRoot (buffers tree notes) r (buffers after notes)
+begins-at p r tree after notes e k = rw e at (k notes)
 
-after-r : (c : tie.After-r) → Came (c .before .before .before .before .before .before .before .before .before .before .before .before .before) 1 (c .r .given .0 .0) (c .before .before .before .before .start-node .last .1 .0) (c .before .before .before .before .before .before .before .before .before .before .before .before .before .args .dropped .now)
-after-r c = roots (entry (c .before .before .before .before .before .before .before .before .before .before .before .before .before)) (opened (c .before .before .before .before)) (c .r .given .1)
+root-fits : (p : Parser) (tree : List ℕ) → p ≡ atRoot → Fits (atRoot .builder) tree → Fits (p .builder) tree
+root-fits p tree e fits = rw e fits
 
-after-q : (c : tie.After-q) → Came (c .before .before .before .before .before .before .before .before .before .before .before .before .before .before .before .before .before .before .before .before .before .before .before) 2 (c .q .given .0 .0) (c .before .before .before .before .before .before .inside .last .1 .1 .1 .1 .0) (c .before .before .before .before .before .before .inside .last .1 .1 .1 .1 .1 .0)
+-- and so is the frame that it ends with
+ends-at : {p u : Parser} {frame : Frame} {r : Step} {tree after : List ℕ} (notes : List ℕ) → frame ≡ record { first = p .builder .first; node = p .builder .node } → p ≡ atRoot
+    → ((notes : List ℕ) → Closes (λ n. position.finish (flat n) kinds.ScopeRoot (shown.frameOf frame)) (frame .first) (frame .node) u (buffers tree notes) r (buffers after notes))
+    → Closes (λ n. position.finish (flat n) kinds.ScopeRoot (record { first = 0; node = 0 })) 0 0 u (buffers tree notes) r (buffers after notes)
+ends-at notes e is k = rw (e, is) at (k notes)
+
+started : (c : tie.After-start-node)
+    → Opens (λ n. position.start (flat n) kinds.ScopeRoot) atRoot (M (start-node→entry c)) (c .start-node .result)
+    (buffers (c .start-node .last .1 .0) (start-node→entry c .args .dropped .now))
+started c = begins-at _ _ _ _ (start-node→entry c .args .dropped .now) (start-node→at-start c .at-start .ensures) (c .start-node .ensures)
+
+begun : (c : tie.After-opened) → Came (opened→entry c) 1 (c .opened .given .0 .0) (opened→start-node c .start-node .last .1 .0) (opened→entry c .args .dropped .now)
+begun c = roots (entry (opened→entry c)) (started (opened→start-node c)) (c .opened .given .1)
+
+-- the list, a level less
+list-read : (c : tie.After-inside)
+    → let b = inside→entry c in
+    Call (T b) (λ n d. spec.itemList (flat n) (sourceOf (T b)) (spec.contentAt (flat n) (sourceOf (T b)) d) Scope.Root) 1
+    (λ q. Left (T b) 0 (inside→opened c .opened .given .0 .0) (buffers (inside→start-node c .start-node .last .1 .0) (b .args .dropped .now)) q
+    (buffers (c .inside .last .1 .1 .1 .1 .0) (c .inside .last .1 .1 .1 .1 .1 .0)))
+    (inside→opened c .opened .given .0 .0) (buffers (inside→start-node c .start-node .last .1 .0) (b .args .dropped .now)) (c .inside .result)
+    (buffers (c .inside .last .1 .1 .1 .1 .0) (c .inside .last .1 .1 .1 .1 .1 .0))
 unfolding spec.contentAt
-after-q c = passes (after-r (c .before .before .before .before .before .before .before .before .before .before)) (below (let w = after-r (c .before .before .before .before .before .before .before .before .before .before) in omega arith) (c .before .before .before .before .before .before .inside .ensures)) (c .q .given .1)
+list-read c = let w = begun (inside→opened c) in below (omega arith) (c .inside .ensures)
 
-start-node-requires : tie.Need-start-node-requires
-start-node-requires c κs = rw (c .before .at-start .ensures) (entry (c .before .before .before .before .before .before .before .before) .fits)
-
-returns : tie.Need-returns
-returns c = root-refused (entry (c .before .before .before .before .before .before .before .before .before .before .before .before .before)) (opened (c .before .before .before .before)) (c .enum-told .given)
-
-inside-requires : tie.Need-inside-requires
-inside-requires c κs = (after-r (c .before .before .before) .ready, tt)
-
-returns-2 : tie.Need-returns-2
-unfolding spec.contentAt
-returns-2 c = parsed-refused (after-r (c .before .before .before .before .before .before .before .before .before .before)) (below (let w = after-r (c .before .before .before .before .before .before .before .before .before .before) in omega arith) (c .before .before .before .before .before .before .inside .ensures)) (c .enum-told2 .given)
-
-finish-node-requires : tie.Need-finish-node-requires
-finish-node-requires c κs = (after-q (c .before .before .before) .ready .steady .fits, after-q (c .before .before .before) .ready .within)
-
-same-length-4 : tie.Need-same-length-4
-same-length-4 c = c .before .before .finish-node .kept .1 .0 ∙ after-q (c .before .before .before .before .before .before) .passed .tree-long
-
-returns-3 : tie.Need-returns-3
-returns-3 c = parsed (after-q (c .before .before .before .before .before .before)) (closes (rw (c .before .before .before .frame .ensures, c .before .before .before .before .before .before .before .before .before .before .before .before .before .before .before .before .before .before .before .before .before .before .at-start .ensures) at (c .before .before .finish-node .ensures (c .before .before .before .before .before .before .before .before .before .before .before .before .inside .last .1 .1 .1 .1 .1 .0))))
+listed : (c : tie.After-listed) → Came (listed→entry c) 2 (c .listed .given .0 .0) (listed→inside c .inside .last .1 .1 .1 .1 .0) (listed→inside c .inside .last .1 .1 .1 .1 .1 .0)
+listed c = passes (begun (listed→opened c)) (list-read (listed→inside c)) (c .listed .given .1)
 
 pub parse-spec : {M : Type 1} → statement M
 parse-spec =
     tie.close
     (tie.spec
     (λ c κs. search needs)
-    start-node-requires
+    -- start_node
+    (λ c κs. root-fits _ _ (start-node-arg→at-start c .at-start .ensures) (entry (start-node-arg→entry c) .fits))
     (λ c. search needs)
     (λ c. search needs)
     (λ c. search needs)
-    returns
-    inside-requires
+    (λ c. root-refused (entry (returns→entry c)) (started (returns→start-node c)) (c .enum-told .given))
+    -- inside
+    (λ c κs. (begun (inside-arg2→opened c) .ready, tt))
     (λ c. search needs)
     (λ c. search needs)
     (λ c. search needs)
     (λ c. search needs)
-    returns-2
+    (λ c. parsed-refused (begun (returns-2→opened c)) (list-read (returns-2→inside c)) (c .enum-told2 .given))
+    -- finish_node
     (λ c κs. search needs)
-    finish-node-requires
-    same-length-4
+    (λ c κs. let w = listed (frame→listed c) in (w .ready .steady .fits, w .ready .within))
+    (λ c. returns-3→finish-node c .finish-node .kept .1 .0 ∙ listed (returns-3→listed c) .passed .tree-long)
     (λ c. search needs)
-    returns-3)
+    (λ c.
+    parsed (listed (returns-3→listed c))
+    (closes (ends-at _ (returns-3→frame c .frame .ensures) (returns-3→at-start c .at-start .ensures) (returns-3→finish-node c .finish-node .ensures)))))

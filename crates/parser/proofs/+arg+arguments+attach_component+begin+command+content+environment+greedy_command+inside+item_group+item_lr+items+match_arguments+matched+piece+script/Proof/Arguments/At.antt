@@ -51,3 +51,198 @@ Place place t = place (claims t) (measures.arguments .at t) own.Post Inv-loop μ
 
 abbrev pub Start : ℕ → Type 0
 Start = Place lts.Start
+
+module _ {t : ℕ} where
+  abbrev pub slice-known2→entry : Place lts.After-slice-known2 t → Place lts.Start t
+  slice-known2→entry c = c .before .before .before .before .before .before
+
+  abbrev pub told→peek : Place lts.After-enum-told t → Place lts.After-peek t
+  told→peek c = c .before .before
+
+  abbrev pub told→at-arguments : Place lts.After-enum-told t → Place lts.At-arguments t
+  told→at-arguments c = c .before .before .before
+
+  abbrev pub then1→peeked : Place lts.Then1 t → Place lts.After-peeked t
+  then1→peeked c = c .before .before
+
+  abbrev pub then1→peek : Place lts.Then1 t → Place lts.After-peek t
+  then1→peek c = c .before .before .before .before
+
+  abbrev pub then1→at-arguments : Place lts.Then1 t → Place lts.At-arguments t
+  then1→at-arguments c = c .before .before .before .before .before
+
+  abbrev pub word→then1 : Place lts.After-word t → Place lts.Then1 t
+  word→then1 c = c .before .before
+
+  abbrev pub word→peeked : Place lts.After-word t → Place lts.After-peeked t
+  word→peeked c = then1→peeked (word→then1 c)
+
+  abbrev pub word→peek : Place lts.After-word t → Place lts.After-peek t
+  word→peek c = then1→peek (word→then1 c)
+
+  abbrev pub loop→at-arguments : Place lts.After-loop t → Place lts.At-arguments t
+  loop→at-arguments c = c .before .before .before .before .before .before .before .before .before
+
+  abbrev pub told2→try-match : Place lts.After-enum-told2 t → Place lts.After-try-match t
+  told2→try-match c = c .before .before
+
+  abbrev pub told2→in-loop : Place lts.After-enum-told2 t → Place lts.In-loop t
+  told2→in-loop c = c .before .before .before
+
+  abbrev pub told2→at-loop : Place lts.After-enum-told2 t → Place lts.At-loop t
+  told2→at-loop c = c .before .before .before .before
+
+  abbrev pub told2→at-arguments : Place lts.After-enum-told2 t → Place lts.At-arguments t
+  told2→at-arguments c = c .before .before .before .before .before .before .before .before .before .before .before .before
+
+  abbrev pub character-arg2→in-loop : Place lts.After-character-arg2 t → Place lts.In-loop t
+  character-arg2→in-loop c = c .before .before .before .before .before .before .before
+
+  abbrev pub character-arg2→at-loop : Place lts.After-character-arg2 t → Place lts.At-loop t
+  character-arg2→at-loop c = c .before .before .before .before .before .before .before .before
+
+  abbrev pub character-arg2→at-arguments : Place lts.After-character-arg2 t → Place lts.At-arguments t
+  character-arg2→at-arguments c = c .before .before .before .before .before .before .before .before .before .before .before .before .before .before
+      .before .before
+
+  abbrev pub known-told3→char-len : Place lts.After-known-told3 t → Place lts.After-char-len t
+  known-told3→char-len c = c .before .before .before .before .before .before .before .before .before .before
+
+  abbrev pub known-told3→at-loop : Place lts.After-known-told3 t → Place lts.At-loop t
+  known-told3→at-loop c = c .before .before .before .before .before .before .before .before .before .before .before .before .before .before .before
+      .before
+
+  abbrev pub again→character : Place lts.After-again t → Place lts.After-character t
+  again→character c = c .before .before .before .before .before .before .before
+
+  abbrev pub again→tried : Place lts.After-again t → Place lts.After-tried t
+  again→tried c = c .before .before .before .before .before .before .before .before .before .before .before .before
+
+  abbrev pub again→try-match : Place lts.After-again t → Place lts.After-try-match t
+  again→try-match c = c .before .before .before .before .before .before .before .before .before .before .before .before .before .before
+
+  abbrev pub again→in-loop : Place lts.After-again t → Place lts.In-loop t
+  again→in-loop c = c .before .before .before .before .before .before .before .before .before .before .before .before .before .before .before
+
+  abbrev pub again→at-loop : Place lts.After-again t → Place lts.At-loop t
+  again→at-loop c = c .before .before .before .before .before .before .before .before .before .before .before .before .before .before .before .before
+
+  abbrev pub again→at-arguments : Place lts.After-again t → Place lts.At-arguments t
+  again→at-arguments c = c .before .before .before .before .before .before .before .before .before .before .before .before .before .before .before
+      .before .before .before .before .before .before .before .before .before
+
+  abbrev pub word2→taken : Place lts.After-word2 t → Place lts.After-taken t
+  word2→taken c = c .before .before
+
+  abbrev pub word2→character : Place lts.After-word2 t → Place lts.After-character t
+  word2→character c = c .before .before .before .before .before .before .before .before
+
+  abbrev pub word2→char-len : Place lts.After-word2 t → Place lts.After-char-len t
+  word2→char-len c = c .before .before .before .before .before .before .before .before .before .before .before
+
+  abbrev pub word2→tried : Place lts.After-word2 t → Place lts.After-tried t
+  word2→tried c = c .before .before .before .before .before .before .before .before .before .before .before .before .before
+
+  abbrev pub word2→try-match : Place lts.After-word2 t → Place lts.After-try-match t
+  word2→try-match c = c .before .before .before .before .before .before .before .before .before .before .before .before .before .before .before
+
+  abbrev pub word2→in-loop : Place lts.After-word2 t → Place lts.In-loop t
+  word2→in-loop c = c .before .before .before .before .before .before .before .before .before .before .before .before .before .before .before .before
+
+  abbrev pub word2→at-loop : Place lts.After-word2 t → Place lts.At-loop t
+  word2→at-loop c = c .before .before .before .before .before .before .before .before .before .before .before .before .before .before .before .before
+      .before
+
+  abbrev pub word2→at-arguments : Place lts.After-word2 t → Place lts.At-arguments t
+  word2→at-arguments c = c .before .before .before .before .before .before .before .before .before .before .before .before .before .before .before
+      .before .before .before .before .before .before .before .before .before .before
+
+  abbrev pub scope→else1 : Place lts.After-scope t → Place lts.Else1 t
+  scope→else1 c = c .before
+
+  abbrev pub choose→peeked : Place lts.After-choose t → Place lts.After-peeked t
+  choose→peeked c = c .before .before .before .before
+
+  abbrev pub choose→at-arguments : Place lts.After-choose t → Place lts.At-arguments t
+  choose→at-arguments c = c .before .before .before .before .before .before .before
+
+  abbrev pub choose→entry : Place lts.After-choose t → Place lts.Start t
+  choose→entry c = c .before .before .before .before .before .before .before .before .before .before .before .before .before .before
+
+  abbrev pub told4→choose : Place lts.After-enum-told4 t → Place lts.After-choose t
+  told4→choose c = c .before .before
+
+  abbrev pub told4→peeked : Place lts.After-enum-told4 t → Place lts.After-peeked t
+  told4→peeked c = choose→peeked (told4→choose c)
+
+  abbrev pub told4→peek : Place lts.After-enum-told4 t → Place lts.After-peek t
+  told4→peek c = c .before .before .before .before .before .before .before .before
+
+  abbrev pub told4→at-arguments : Place lts.After-enum-told4 t → Place lts.At-arguments t
+  told4→at-arguments c = choose→at-arguments (told4→choose c)
+
+  abbrev pub told5→at-arguments : Place lts.After-enum-told5 t → Place lts.At-arguments t
+  told5→at-arguments c = c .before .before .before .before .before .before .before .before .before
+
+  abbrev pub hold-trivia→choose : Place lts.After-hold-trivia t → Place lts.After-choose t
+  hold-trivia→choose c = c .before .before .before
+
+  abbrev pub hold-trivia→peeked : Place lts.After-hold-trivia t → Place lts.After-peeked t
+  hold-trivia→peeked c = choose→peeked (hold-trivia→choose c)
+
+  abbrev pub hold-trivia→peek : Place lts.After-hold-trivia t → Place lts.After-peek t
+  hold-trivia→peek c = c .before .before .before .before .before .before .before .before .before
+
+  abbrev pub hold-trivia→at-arguments : Place lts.After-hold-trivia t → Place lts.At-arguments t
+  hold-trivia→at-arguments c = choose→at-arguments (hold-trivia→choose c)
+
+  abbrev pub arg-arg2→peeked : Place lts.After-arg-arg2 t → Place lts.After-peeked t
+  arg-arg2→peeked c = c .before .before .before .before .before .before .before .before .before
+
+  abbrev pub arg-arg2→peek : Place lts.After-arg-arg2 t → Place lts.After-peek t
+  arg-arg2→peek c = c .before .before .before .before .before .before .before .before .before .before .before
+
+  abbrev pub arg-arg2→at-arguments : Place lts.After-arg-arg2 t → Place lts.At-arguments t
+  arg-arg2→at-arguments c = c .before .before .before .before .before .before .before .before .before .before .before .before
+
+  abbrev pub arg-arg2→entry : Place lts.After-arg-arg2 t → Place lts.Start t
+  arg-arg2→entry c = c .before .before .before .before .before .before .before .before .before .before .before .before .before .before .before .before
+      .before .before .before
+
+  abbrev pub known-told5→arg : Place lts.After-known-told5 t → Place lts.After-arg t
+  known-told5→arg c = c .before .before .before .before .before .before .before
+
+  abbrev pub known-told5→choice : Place lts.After-known-told5 t → Place lts.After-choice t
+  known-told5→choice c = c .before .before .before .before .before .before .before .before .before .before .before
+
+  abbrev pub known-told5→choose : Place lts.After-known-told5 t → Place lts.After-choose t
+  known-told5→choose c = c .before .before .before .before .before .before .before .before .before .before .before .before .before
+
+  abbrev pub known-told5→peeked : Place lts.After-known-told5 t → Place lts.After-peeked t
+  known-told5→peeked c = choose→peeked (known-told5→choose c)
+
+  abbrev pub known-told5→peek : Place lts.After-known-told5 t → Place lts.After-peek t
+  known-told5→peek c = c .before .before .before .before .before .before .before .before .before .before .before .before .before .before .before
+      .before .before .before .before
+
+  abbrev pub known-told5→at-arguments : Place lts.After-known-told5 t → Place lts.At-arguments t
+  known-told5→at-arguments c = choose→at-arguments (known-told5→choose c)
+
+  abbrev pub again2→arg : Place lts.After-again2 t → Place lts.After-arg t
+  again2→arg c = c .before .before .before .before .before .before .before
+
+  abbrev pub again2→choice : Place lts.After-again2 t → Place lts.After-choice t
+  again2→choice c = c .before .before .before .before .before .before .before .before .before .before .before
+
+  abbrev pub again2→choose : Place lts.After-again2 t → Place lts.After-choose t
+  again2→choose c = c .before .before .before .before .before .before .before .before .before .before .before .before .before
+
+  abbrev pub again2→peeked : Place lts.After-again2 t → Place lts.After-peeked t
+  again2→peeked c = choose→peeked (again2→choose c)
+
+  abbrev pub again2→peek : Place lts.After-again2 t → Place lts.After-peek t
+  again2→peek c = c .before .before .before .before .before .before .before .before .before .before .before .before .before .before .before .before
+      .before .before .before
+
+  abbrev pub again2→at-arguments : Place lts.After-again2 t → Place lts.At-arguments t
+  again2→at-arguments c = choose→at-arguments (again2→choose c)

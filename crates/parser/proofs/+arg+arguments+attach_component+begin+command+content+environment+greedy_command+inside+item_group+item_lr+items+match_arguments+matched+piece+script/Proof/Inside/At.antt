@@ -28,3 +28,32 @@ Place place t = place (claims t) (measures.inside .at t) own.Post
 
 abbrev pub Start : ℕ → Type 0
 Start = Place lts.Start
+
+module _ {t : ℕ} where
+  abbrev pub items-arg2→opened : Place lts.After-items-arg2 t → Place lts.After-opened t
+  items-arg2→opened c = c .before .before
+
+  abbrev pub items-arg2→entry : Place lts.After-items-arg2 t → Place lts.Start t
+  items-arg2→entry c = c .before .before .before .before .before .before .before .before .before
+
+  abbrev pub told→items : Place lts.After-enum-told t → Place lts.After-items t
+  told→items c = c .before .before .before .before .before .before
+
+  abbrev pub told→opened : Place lts.After-enum-told t → Place lts.After-opened t
+  told→opened c = c .before .before .before .before .before .before .before .before .before
+
+  abbrev pub told→entry : Place lts.After-enum-told t → Place lts.Start t
+  told→entry c = c .before .before .before .before .before .before .before .before .before .before .before .before .before .before .before .before
+
+  abbrev pub closed→listed : Place lts.After-closed t → Place lts.After-listed t
+  closed→listed c = c .before .before
+
+  abbrev pub closed→items : Place lts.After-closed t → Place lts.After-items t
+  closed→items c = c .before .before .before .before .before .before .before .before
+
+  abbrev pub closed→opened : Place lts.After-closed t → Place lts.After-opened t
+  closed→opened c = c .before .before .before .before .before .before .before .before .before .before .before
+
+  abbrev pub closed→entry : Place lts.After-closed t → Place lts.Start t
+  closed→entry c = c .before .before .before .before .before .before .before .before .before .before .before .before .before .before .before .before
+      .before .before

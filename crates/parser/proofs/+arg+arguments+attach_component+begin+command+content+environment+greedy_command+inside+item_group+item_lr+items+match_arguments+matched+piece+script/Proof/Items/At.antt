@@ -33,3 +33,73 @@ Place place t = place (claims t) (measures.items .at t) own.Post Inv-loop μ-loo
 
 abbrev pub Start : ℕ → Type 0
 Start = Place lts.Start
+
+module _ {t : ℕ} where
+  abbrev pub slice-known2→entry : Place lts.After-slice-known2 t → Place lts.Start t
+  slice-known2→entry c = c .before .before .before .before .before .before
+
+  abbrev pub else1→at-loop : Place lts.Else1 t → Place lts.At-loop t
+  else1→at-loop c = c .before .before
+
+  abbrev pub else1→entry : Place lts.Else1 t → Place lts.Start t
+  else1→entry c = c .before .before .before .before .before .before .before .before .before
+
+  abbrev pub content-arg2→then1 : Place lts.After-content-arg2 t → Place lts.Then1 t
+  content-arg2→then1 c = c .before .before
+
+  abbrev pub content-arg2→more-items : Place lts.After-content-arg2 t → Place lts.After-more-items t
+  content-arg2→more-items c = c .before .before .before
+
+  abbrev pub content-arg2→at-loop : Place lts.After-content-arg2 t → Place lts.At-loop t
+  content-arg2→at-loop c = c .before .before .before .before
+
+  abbrev pub content-arg2→entry : Place lts.After-content-arg2 t → Place lts.Start t
+  content-arg2→entry c = c .before .before .before .before .before .before .before .before .before .before .before
+
+  abbrev pub known-told→then1 : Place lts.After-known-told t → Place lts.Then1 t
+  known-told→then1 c = c .before .before .before .before .before .before .before .before .before .before
+
+  abbrev pub known-told→more-items : Place lts.After-known-told t → Place lts.After-more-items t
+  known-told→more-items c = c .before .before .before .before .before .before .before .before .before .before .before
+
+  abbrev pub known-told→at-loop : Place lts.After-known-told t → Place lts.At-loop t
+  known-told→at-loop c = c .before .before .before .before .before .before .before .before .before .before .before .before
+
+  abbrev pub known-told→entry : Place lts.After-known-told t → Place lts.Start t
+  known-told→entry c = c .before .before .before .before .before .before .before .before .before .before .before .before .before .before .before
+      .before .before .before .before
+
+  abbrev pub again→content : Place lts.After-again t → Place lts.After-content t
+  again→content c = c .before .before .before .before .before .before .before
+
+  abbrev pub again→then1 : Place lts.After-again t → Place lts.Then1 t
+  again→then1 c = c .before .before .before .before .before .before .before .before .before .before
+
+  abbrev pub again→more-items : Place lts.After-again t → Place lts.After-more-items t
+  again→more-items c = c .before .before .before .before .before .before .before .before .before .before .before
+
+  abbrev pub again→at-loop : Place lts.After-again t → Place lts.At-loop t
+  again→at-loop c = c .before .before .before .before .before .before .before .before .before .before .before .before
+
+  abbrev pub again→entry : Place lts.After-again t → Place lts.Start t
+  again→entry c = c .before .before .before .before .before .before .before .before .before .before .before .before .before .before .before .before
+      .before .before .before
+
+  abbrev pub behind→read : Place lts.After-behind t → Place lts.After-read t
+  behind→read c = c .before .before
+
+  abbrev pub behind→content : Place lts.After-behind t → Place lts.After-content t
+  behind→content c = c .before .before .before .before .before .before .before .before
+
+  abbrev pub behind→then1 : Place lts.After-behind t → Place lts.Then1 t
+  behind→then1 c = c .before .before .before .before .before .before .before .before .before .before .before
+
+  abbrev pub behind→more-items : Place lts.After-behind t → Place lts.After-more-items t
+  behind→more-items c = c .before .before .before .before .before .before .before .before .before .before .before .before
+
+  abbrev pub behind→at-loop : Place lts.After-behind t → Place lts.At-loop t
+  behind→at-loop c = c .before .before .before .before .before .before .before .before .before .before .before .before .before
+
+  abbrev pub behind→entry : Place lts.After-behind t → Place lts.Start t
+  behind→entry c = c .before .before .before .before .before .before .before .before .before .before .before .before .before .before .before .before
+      .before .before .before .before
