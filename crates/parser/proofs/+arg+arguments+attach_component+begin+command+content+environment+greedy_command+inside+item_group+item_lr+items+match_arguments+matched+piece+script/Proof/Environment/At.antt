@@ -37,3 +37,94 @@ Place place t = place (claims t) (measures.environment .at t) own.Post
 
 abbrev pub Start : ℕ → Type 0
 Start = Place lts.Start
+
+module _ {t : ℕ} where
+  abbrev pub start-node-arg→entry : Place lts.After-start-node-arg t → Place lts.Start t
+  start-node-arg→entry c = c .before .before .before .before .before .before .before
+
+  abbrev pub start-node→entry : Place lts.After-start-node t → Place lts.Start t
+  start-node→entry c = c .before .before .before .before .before .before .before .before
+
+  abbrev pub told→start-node : Place lts.After-enum-told t → Place lts.After-start-node t
+  told→start-node c = c .before .before .before .before
+
+  abbrev pub begin-arg2→opened : Place lts.After-begin-arg2 t → Place lts.After-opened t
+  begin-arg2→opened c = c .before .before .before
+
+  abbrev pub begin-arg2→start-node : Place lts.After-begin-arg2 t → Place lts.After-start-node t
+  begin-arg2→start-node c = c .before .before .before .before .before .before .before
+
+  abbrev pub begin-arg2→entry : Place lts.After-begin-arg2 t → Place lts.Start t
+  begin-arg2→entry c = start-node→entry (begin-arg2→start-node c)
+
+  abbrev pub begin→opened : Place lts.After-begin t → Place lts.After-opened t
+  begin→opened c = c .before .before .before .before
+
+  abbrev pub begin→start-node : Place lts.After-begin t → Place lts.After-start-node t
+  begin→start-node c = c .before .before .before .before .before .before .before .before
+
+  abbrev pub begin→entry : Place lts.After-begin t → Place lts.Start t
+  begin→entry c = start-node→entry (begin→start-node c)
+
+  abbrev pub told2→begin : Place lts.After-enum-told2 t → Place lts.After-begin t
+  told2→begin c = c .before .before .before .before .before .before
+
+  abbrev pub inside-arg2→named : Place lts.After-inside-arg2 t → Place lts.After-named t
+  inside-arg2→named c = c .before .before .before
+
+  abbrev pub inside-arg2→begin : Place lts.After-inside-arg2 t → Place lts.After-begin t
+  inside-arg2→begin c = c .before .before .before .before .before .before .before .before .before
+
+  abbrev pub inside-arg2→entry : Place lts.After-inside-arg2 t → Place lts.Start t
+  inside-arg2→entry c = begin→entry (inside-arg2→begin c)
+
+  abbrev pub inside→named : Place lts.After-inside t → Place lts.After-named t
+  inside→named c = c .before .before .before .before
+
+  abbrev pub inside→begin : Place lts.After-inside t → Place lts.After-begin t
+  inside→begin c = c .before .before .before .before .before .before .before .before .before .before
+
+  abbrev pub inside→entry : Place lts.After-inside t → Place lts.Start t
+  inside→entry c = begin→entry (inside→begin c)
+
+  abbrev pub told3→inside : Place lts.After-enum-told3 t → Place lts.After-inside t
+  told3→inside c = c .before .before .before .before .before .before
+
+  abbrev pub end-clause-arg→listed : Place lts.After-end-clause-arg t → Place lts.After-listed t
+  end-clause-arg→listed c = c .before .before
+
+  abbrev pub end-clause-arg→inside : Place lts.After-end-clause-arg t → Place lts.After-inside t
+  end-clause-arg→inside c = c .before .before .before .before .before .before .before .before
+
+  abbrev pub end-clause→listed : Place lts.After-end-clause t → Place lts.After-listed t
+  end-clause→listed c = c .before .before .before
+
+  abbrev pub end-clause→inside : Place lts.After-end-clause t → Place lts.After-inside t
+  end-clause→inside c = c .before .before .before .before .before .before .before .before .before
+
+  abbrev pub end-clause→entry : Place lts.After-end-clause t → Place lts.Start t
+  end-clause→entry c = inside→entry (end-clause→inside c)
+
+  abbrev pub told4→end-clause : Place lts.After-enum-told4 t → Place lts.After-end-clause t
+  told4→end-clause c = c .before .before .before .before
+
+  abbrev pub frame→shut : Place lts.After-frame t → Place lts.After-shut t
+  frame→shut c = c .before .before .before
+
+  abbrev pub frame→end-clause : Place lts.After-frame t → Place lts.After-end-clause t
+  frame→end-clause c = c .before .before .before .before .before .before .before
+
+  abbrev pub finish-node→shut : Place lts.After-finish-node t → Place lts.After-shut t
+  finish-node→shut c = c .before .before .before .before
+
+  abbrev pub finish-node→end-clause : Place lts.After-finish-node t → Place lts.After-end-clause t
+  finish-node→end-clause c = c .before .before .before .before .before .before .before .before
+
+  abbrev pub finish-node→inside : Place lts.After-finish-node t → Place lts.After-inside t
+  finish-node→inside c = end-clause→inside (finish-node→end-clause c)
+
+  abbrev pub finish-node→entry : Place lts.After-finish-node t → Place lts.Start t
+  finish-node→entry c = inside→entry (finish-node→inside c)
+
+  abbrev pub returns-5→finish-node : Place lts.After-slice-known9 t → Place lts.After-finish-node t
+  returns-5→finish-node c = c .before .before

@@ -37,3 +37,124 @@ Place place t = place (claims t) (measures.greedy-command .at t) own.Post
 
 abbrev pub Start : ℕ → Type 0
 Start = Place lts.Start
+
+module _ {t : ℕ} where
+  abbrev pub start-around-arg→entry : Place lts.After-start-around-arg t → Place lts.Start t
+  start-around-arg→entry c = c .before .before .before .before .before .before .before
+
+  abbrev pub start-around→entry : Place lts.After-start-around t → Place lts.Start t
+  start-around→entry c = c .before .before .before .before .before .before .before .before
+
+  abbrev pub told→start-around : Place lts.After-enum-told t → Place lts.After-start-around t
+  told→start-around c = c .before .before .before .before
+
+  abbrev pub eat-arg→opened : Place lts.After-eat-arg t → Place lts.After-opened t
+  eat-arg→opened c = c .before .before
+
+  abbrev pub eat-arg→start-around : Place lts.After-eat-arg t → Place lts.After-start-around t
+  eat-arg→start-around c = c .before .before .before .before .before .before
+
+  abbrev pub eat-arg→entry : Place lts.After-eat-arg t → Place lts.Start t
+  eat-arg→entry c = start-around→entry (eat-arg→start-around c)
+
+  abbrev pub eat→opened : Place lts.After-eat t → Place lts.After-opened t
+  eat→opened c = c .before .before .before
+
+  abbrev pub eat→start-around : Place lts.After-eat t → Place lts.After-start-around t
+  eat→start-around c = c .before .before .before .before .before .before .before
+
+  abbrev pub eat→entry : Place lts.After-eat t → Place lts.Start t
+  eat→entry c = start-around→entry (eat→start-around c)
+
+  abbrev pub eaten→eat : Place lts.After-eaten t → Place lts.After-eat t
+  eaten→eat c = c .before .before .before .before
+
+  abbrev pub eaten→entry : Place lts.After-eaten t → Place lts.Start t
+  eaten→entry c = eat→entry (eaten→eat c)
+
+  abbrev pub told2→eat : Place lts.After-enum-told2 t → Place lts.After-eat t
+  told2→eat c = c .before .before .before .before
+
+  abbrev pub start-node-arg→eaten : Place lts.After-start-node-arg t → Place lts.After-eaten t
+  start-node-arg→eaten c = c .before .before
+
+  abbrev pub start-node→eaten : Place lts.After-start-node t → Place lts.After-eaten t
+  start-node→eaten c = c .before .before .before
+
+  abbrev pub start-node→entry : Place lts.After-start-node t → Place lts.Start t
+  start-node→entry c = eaten→entry (start-node→eaten c)
+
+  abbrev pub told3→start-node : Place lts.After-enum-told3 t → Place lts.After-start-node t
+  told3→start-node c = c .before .before .before .before
+
+  abbrev pub told3→eaten : Place lts.After-enum-told3 t → Place lts.After-eaten t
+  told3→eaten c = start-node→eaten (told3→start-node c)
+
+  abbrev pub inside-arg2→inner : Place lts.After-inside-arg2 t → Place lts.After-inner t
+  inside-arg2→inner c = c .before .before .before
+
+  abbrev pub inside-arg2→start-node : Place lts.After-inside-arg2 t → Place lts.After-start-node t
+  inside-arg2→start-node c = c .before .before .before .before .before .before .before
+
+  abbrev pub inside-arg2→eaten : Place lts.After-inside-arg2 t → Place lts.After-eaten t
+  inside-arg2→eaten c = start-node→eaten (inside-arg2→start-node c)
+
+  abbrev pub inside-arg2→entry : Place lts.After-inside-arg2 t → Place lts.Start t
+  inside-arg2→entry c = eaten→entry (inside-arg2→eaten c)
+
+  abbrev pub inside→inner : Place lts.After-inside t → Place lts.After-inner t
+  inside→inner c = c .before .before .before .before
+
+  abbrev pub inside→start-node : Place lts.After-inside t → Place lts.After-start-node t
+  inside→start-node c = c .before .before .before .before .before .before .before .before
+
+  abbrev pub inside→eaten : Place lts.After-inside t → Place lts.After-eaten t
+  inside→eaten c = start-node→eaten (inside→start-node c)
+
+  abbrev pub told4→inside : Place lts.After-enum-told4 t → Place lts.After-inside t
+  told4→inside c = c .before .before .before .before .before .before
+
+  abbrev pub told4→eaten : Place lts.After-enum-told4 t → Place lts.After-eaten t
+  told4→eaten c = inside→eaten (told4→inside c)
+
+  abbrev pub frame→listed : Place lts.After-frame t → Place lts.After-listed t
+  frame→listed c = c .before .before .before
+
+  abbrev pub frame→inside : Place lts.After-frame t → Place lts.After-inside t
+  frame→inside c = c .before .before .before .before .before .before .before .before .before
+
+  abbrev pub finish-node→listed : Place lts.After-finish-node t → Place lts.After-listed t
+  finish-node→listed c = c .before .before .before .before
+
+  abbrev pub finish-node→inside : Place lts.After-finish-node t → Place lts.After-inside t
+  finish-node→inside c = c .before .before .before .before .before .before .before .before .before .before
+
+  abbrev pub finish-node→eaten : Place lts.After-finish-node t → Place lts.After-eaten t
+  finish-node→eaten c = inside→eaten (finish-node→inside c)
+
+  abbrev pub finish-node→entry : Place lts.After-finish-node t → Place lts.Start t
+  finish-node→entry c = eaten→entry (finish-node→eaten c)
+
+  abbrev pub told5→finish-node : Place lts.After-enum-told5 t → Place lts.After-finish-node t
+  told5→finish-node c = c .before .before .before .before
+
+  abbrev pub frame2→ended : Place lts.After-frame2 t → Place lts.After-ended t
+  frame2→ended c = c .before .before .before
+
+  abbrev pub frame2→finish-node : Place lts.After-frame2 t → Place lts.After-finish-node t
+  frame2→finish-node c = c .before .before .before .before .before .before .before
+
+  abbrev pub finish-node2→ended : Place lts.After-finish-node2 t → Place lts.After-ended t
+  finish-node2→ended c = c .before .before .before .before
+
+  abbrev pub finish-node2→finish-node : Place lts.After-finish-node2 t → Place lts.After-finish-node t
+  finish-node2→finish-node c = c .before .before .before .before .before .before .before .before
+
+  abbrev pub finish-node2→inside : Place lts.After-finish-node2 t → Place lts.After-inside t
+  finish-node2→inside c = finish-node→inside (finish-node2→finish-node c)
+
+  abbrev pub finish-node2→entry : Place lts.After-finish-node2 t → Place lts.Start t
+  finish-node2→entry c = finish-node→entry (finish-node2→finish-node c)
+
+  abbrev pub returns-6→finish-node2 : Place lts.After-slice-known9 t → Place lts.After-finish-node2 t
+  returns-6→finish-node2 c = c .before .before

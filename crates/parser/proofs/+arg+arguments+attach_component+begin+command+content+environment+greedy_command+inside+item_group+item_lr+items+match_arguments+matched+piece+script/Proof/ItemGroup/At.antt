@@ -43,3 +43,100 @@ Place place t = place (claims t) (measures.item-group .at t) own.Post
 
 abbrev pub Start : ℕ → Type 0
 Start = Place lts.Start
+
+module _ {t : ℕ} where
+  abbrev pub group-kind→entry : Place lts.After-group-kind t → Place lts.Start t
+  group-kind→entry c = c .before .before .before .before .before .before .before .before
+
+  abbrev pub start-node→entry : Place lts.After-start-node t → Place lts.Start t
+  start-node→entry c = c .before .before .before .before .before .before .before .before .before
+
+  abbrev pub told→start-node : Place lts.After-enum-told t → Place lts.After-start-node t
+  told→start-node c = c .before .before .before .before
+
+  abbrev pub eat-arg→opened : Place lts.After-eat-arg t → Place lts.After-opened t
+  eat-arg→opened c = c .before .before
+
+  abbrev pub eat-arg→start-node : Place lts.After-eat-arg t → Place lts.After-start-node t
+  eat-arg→start-node c = c .before .before .before .before .before .before
+
+  abbrev pub eat-arg→group-kind : Place lts.After-eat-arg t → Place lts.After-group-kind t
+  eat-arg→group-kind c = c .before .before .before .before .before .before .before
+
+  abbrev pub eat-arg→entry : Place lts.After-eat-arg t → Place lts.Start t
+  eat-arg→entry c = group-kind→entry (eat-arg→group-kind c)
+
+  abbrev pub eat→opened : Place lts.After-eat t → Place lts.After-opened t
+  eat→opened c = c .before .before .before
+
+  abbrev pub eat→start-node : Place lts.After-eat t → Place lts.After-start-node t
+  eat→start-node c = c .before .before .before .before .before .before .before
+
+  abbrev pub eat→entry : Place lts.After-eat t → Place lts.Start t
+  eat→entry c = start-node→entry (eat→start-node c)
+
+  abbrev pub told2→eat : Place lts.After-enum-told2 t → Place lts.After-eat t
+  told2→eat c = c .before .before .before .before
+
+  abbrev pub inside-arg2→eaten : Place lts.After-inside-arg2 t → Place lts.After-eaten t
+  inside-arg2→eaten c = c .before .before .before
+
+  abbrev pub inside-arg2→eat : Place lts.After-inside-arg2 t → Place lts.After-eat t
+  inside-arg2→eat c = c .before .before .before .before .before .before .before
+
+  abbrev pub inside-arg2→entry : Place lts.After-inside-arg2 t → Place lts.Start t
+  inside-arg2→entry c = eat→entry (inside-arg2→eat c)
+
+  abbrev pub inside→eaten : Place lts.After-inside t → Place lts.After-eaten t
+  inside→eaten c = c .before .before .before .before
+
+  abbrev pub inside→eat : Place lts.After-inside t → Place lts.After-eat t
+  inside→eat c = c .before .before .before .before .before .before .before .before
+
+  abbrev pub inside→entry : Place lts.After-inside t → Place lts.Start t
+  inside→entry c = eat→entry (inside→eat c)
+
+  abbrev pub told3→inside : Place lts.After-enum-told3 t → Place lts.After-inside t
+  told3→inside c = c .before .before .before .before .before .before
+
+  abbrev pub closer→listed : Place lts.After-closer t → Place lts.After-listed t
+  closer→listed c = c .before .before .before
+
+  abbrev pub closer→inside : Place lts.After-closer t → Place lts.After-inside t
+  closer→inside c = c .before .before .before .before .before .before .before .before .before
+
+  abbrev pub eat-if→listed : Place lts.After-eat-if t → Place lts.After-listed t
+  eat-if→listed c = c .before .before .before .before
+
+  abbrev pub eat-if→inside : Place lts.After-eat-if t → Place lts.After-inside t
+  eat-if→inside c = c .before .before .before .before .before .before .before .before .before .before
+
+  abbrev pub eat-if→entry : Place lts.After-eat-if t → Place lts.Start t
+  eat-if→entry c = inside→entry (eat-if→inside c)
+
+  abbrev pub told4→eat-if : Place lts.After-enum-told4 t → Place lts.After-eat-if t
+  told4→eat-if c = c .before .before .before .before
+
+  abbrev pub frame→shut : Place lts.After-frame t → Place lts.After-shut t
+  frame→shut c = c .before .before .before .before
+
+  abbrev pub frame→eat-if : Place lts.After-frame t → Place lts.After-eat-if t
+  frame→eat-if c = c .before .before .before .before .before .before .before .before
+
+  abbrev pub finish-node→group-kind2 : Place lts.After-finish-node t → Place lts.After-group-kind2 t
+  finish-node→group-kind2 c = c .before .before
+
+  abbrev pub finish-node→shut : Place lts.After-finish-node t → Place lts.After-shut t
+  finish-node→shut c = c .before .before .before .before .before
+
+  abbrev pub finish-node→eat-if : Place lts.After-finish-node t → Place lts.After-eat-if t
+  finish-node→eat-if c = c .before .before .before .before .before .before .before .before .before
+
+  abbrev pub finish-node→inside : Place lts.After-finish-node t → Place lts.After-inside t
+  finish-node→inside c = eat-if→inside (finish-node→eat-if c)
+
+  abbrev pub finish-node→entry : Place lts.After-finish-node t → Place lts.Start t
+  finish-node→entry c = inside→entry (finish-node→inside c)
+
+  abbrev pub returns-5→finish-node : Place lts.After-slice-known8 t → Place lts.After-finish-node t
+  returns-5→finish-node c = c .before .before

@@ -37,3 +37,94 @@ Place place t = place (claims t) (measures.item-lr .at t) own.Post
 
 abbrev pub Start : ℕ → Type 0
 Start = Place lts.Start
+
+module _ {t : ℕ} where
+  abbrev pub start-node-arg→entry : Place lts.After-start-node-arg t → Place lts.Start t
+  start-node-arg→entry c = c .before .before .before .before .before .before .before
+
+  abbrev pub start-node→entry : Place lts.After-start-node t → Place lts.Start t
+  start-node→entry c = c .before .before .before .before .before .before .before .before
+
+  abbrev pub told→start-node : Place lts.After-enum-told t → Place lts.After-start-node t
+  told→start-node c = c .before .before .before .before
+
+  abbrev pub clause-lr-arg→opened : Place lts.After-clause-lr-arg t → Place lts.After-opened t
+  clause-lr-arg→opened c = c .before .before
+
+  abbrev pub clause-lr-arg→start-node : Place lts.After-clause-lr-arg t → Place lts.After-start-node t
+  clause-lr-arg→start-node c = c .before .before .before .before .before .before
+
+  abbrev pub clause-lr-arg→entry : Place lts.After-clause-lr-arg t → Place lts.Start t
+  clause-lr-arg→entry c = start-node→entry (clause-lr-arg→start-node c)
+
+  abbrev pub clause-lr→opened : Place lts.After-clause-lr t → Place lts.After-opened t
+  clause-lr→opened c = c .before .before .before
+
+  abbrev pub clause-lr→start-node : Place lts.After-clause-lr t → Place lts.After-start-node t
+  clause-lr→start-node c = c .before .before .before .before .before .before .before
+
+  abbrev pub clause-lr→entry : Place lts.After-clause-lr t → Place lts.Start t
+  clause-lr→entry c = start-node→entry (clause-lr→start-node c)
+
+  abbrev pub told2→clause-lr : Place lts.After-enum-told2 t → Place lts.After-clause-lr t
+  told2→clause-lr c = c .before .before .before .before
+
+  abbrev pub inside-arg2→delimited : Place lts.After-inside-arg2 t → Place lts.After-delimited t
+  inside-arg2→delimited c = c .before .before .before
+
+  abbrev pub inside-arg2→clause-lr : Place lts.After-inside-arg2 t → Place lts.After-clause-lr t
+  inside-arg2→clause-lr c = c .before .before .before .before .before .before .before
+
+  abbrev pub inside-arg2→entry : Place lts.After-inside-arg2 t → Place lts.Start t
+  inside-arg2→entry c = clause-lr→entry (inside-arg2→clause-lr c)
+
+  abbrev pub inside→delimited : Place lts.After-inside t → Place lts.After-delimited t
+  inside→delimited c = c .before .before .before .before
+
+  abbrev pub inside→clause-lr : Place lts.After-inside t → Place lts.After-clause-lr t
+  inside→clause-lr c = c .before .before .before .before .before .before .before .before
+
+  abbrev pub inside→entry : Place lts.After-inside t → Place lts.Start t
+  inside→entry c = clause-lr→entry (inside→clause-lr c)
+
+  abbrev pub told3→inside : Place lts.After-enum-told3 t → Place lts.After-inside t
+  told3→inside c = c .before .before .before .before .before .before
+
+  abbrev pub right-clause-arg→listed : Place lts.After-right-clause-arg t → Place lts.After-listed t
+  right-clause-arg→listed c = c .before .before
+
+  abbrev pub right-clause-arg→inside : Place lts.After-right-clause-arg t → Place lts.After-inside t
+  right-clause-arg→inside c = c .before .before .before .before .before .before .before .before
+
+  abbrev pub right-clause→listed : Place lts.After-right-clause t → Place lts.After-listed t
+  right-clause→listed c = c .before .before .before
+
+  abbrev pub right-clause→inside : Place lts.After-right-clause t → Place lts.After-inside t
+  right-clause→inside c = c .before .before .before .before .before .before .before .before .before
+
+  abbrev pub right-clause→entry : Place lts.After-right-clause t → Place lts.Start t
+  right-clause→entry c = inside→entry (right-clause→inside c)
+
+  abbrev pub told4→right-clause : Place lts.After-enum-told4 t → Place lts.After-right-clause t
+  told4→right-clause c = c .before .before .before .before
+
+  abbrev pub frame→shut : Place lts.After-frame t → Place lts.After-shut t
+  frame→shut c = c .before .before .before
+
+  abbrev pub frame→right-clause : Place lts.After-frame t → Place lts.After-right-clause t
+  frame→right-clause c = c .before .before .before .before .before .before .before
+
+  abbrev pub finish-node→shut : Place lts.After-finish-node t → Place lts.After-shut t
+  finish-node→shut c = c .before .before .before .before
+
+  abbrev pub finish-node→right-clause : Place lts.After-finish-node t → Place lts.After-right-clause t
+  finish-node→right-clause c = c .before .before .before .before .before .before .before .before
+
+  abbrev pub finish-node→inside : Place lts.After-finish-node t → Place lts.After-inside t
+  finish-node→inside c = right-clause→inside (finish-node→right-clause c)
+
+  abbrev pub finish-node→entry : Place lts.After-finish-node t → Place lts.Start t
+  finish-node→entry c = inside→entry (finish-node→inside c)
+
+  abbrev pub returns-5→finish-node : Place lts.After-slice-known8 t → Place lts.After-finish-node t
+  returns-5→finish-node c = c .before .before
