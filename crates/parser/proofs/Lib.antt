@@ -8,5 +8,6 @@ pub mod Extents
 pub mod ItemLoop
 pub mod Marks
 pub mod Scripts
+pub mod ShapeArguments
 pub mod WordLoop
 pub mod FromRoot
