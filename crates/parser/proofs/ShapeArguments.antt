@@ -12,7 +12,8 @@ use Rattle.routines.specs.Stands.{Here}
 use Rattle.parser.specs.Member.{innerAt, Matches}
 
 -- the code asked its own matcher whether it is greedy
-pub greedy-is : (s : Shape) {x : Matcher} {b c : Bool} → x ≡ startMatch (s .form) (s .value) → b ≡ isGreedy x → b ≡ c → isGreedy (startMatch (s .form) (s .value)) ≡ c
+pub greedy-is : (s : Shape) {x : Matcher} {b c : Bool} → x ≡ startMatch (s .form) (s .value) → b ≡ isGreedy x → b ≡ c
+    → isGreedy (startMatch (s .form) (s .value)) ≡ c
 greedy-is s x-is b-is e = ap isGreedy (sym x-is) ∙ sym b-is ∙ e
 
 -- such a shape is neither a name alone nor refused
