@@ -10,5 +10,6 @@ pub mod Lent
 pub mod ListNode
 pub mod Marks
 pub mod Scripts
+pub mod ShapeArguments
 pub mod WordLoop
 pub mod FromRoot

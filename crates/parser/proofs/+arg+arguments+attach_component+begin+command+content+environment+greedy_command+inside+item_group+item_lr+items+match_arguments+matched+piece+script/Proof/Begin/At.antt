@@ -43,3 +43,107 @@ Place place t = place (claims t) (measures.begin .at t) own.Post
 
 abbrev pub Start : ℕ → Type 0
 Start = Place lts.Start
+
+module _ {t : ℕ} where
+  abbrev pub slice-known2→entry : Place lts.After-slice-known2 t → Place lts.Start t
+  slice-known2→entry c = c .before .before .before .before .before .before
+
+  abbrev pub of-class→of-token : Place lts.After-of-class t → Place lts.After-of-token t
+  of-class→of-token c = c .before
+
+  abbrev pub of-class→entry : Place lts.After-of-class t → Place lts.Start t
+  of-class→entry c = c .before .before .before .before .before .before .before .before
+
+  abbrev pub start-node-arg→entry : Place lts.After-start-node-arg t → Place lts.Start t
+  start-node-arg→entry c = c .before .before .before .before .before .before .before .before .before
+
+  abbrev pub start-node→entry : Place lts.After-start-node t → Place lts.Start t
+  start-node→entry c = c .before .before .before .before .before .before .before .before .before .before
+
+  abbrev pub told→start-node : Place lts.After-enum-told t → Place lts.After-start-node t
+  told→start-node c = c .before .before .before .before
+
+  abbrev pub eat-arg→opened : Place lts.After-eat-arg t → Place lts.After-opened t
+  eat-arg→opened c = c .before .before
+
+  abbrev pub eat-arg→start-node : Place lts.After-eat-arg t → Place lts.After-start-node t
+  eat-arg→start-node c = c .before .before .before .before .before .before
+
+  abbrev pub eat-arg→entry : Place lts.After-eat-arg t → Place lts.Start t
+  eat-arg→entry c = start-node→entry (eat-arg→start-node c)
+
+  abbrev pub eat→opened : Place lts.After-eat t → Place lts.After-opened t
+  eat→opened c = c .before .before .before
+
+  abbrev pub eat→start-node : Place lts.After-eat t → Place lts.After-start-node t
+  eat→start-node c = c .before .before .before .before .before .before .before
+
+  abbrev pub eat→entry : Place lts.After-eat t → Place lts.Start t
+  eat→entry c = start-node→entry (eat→start-node c)
+
+  abbrev pub told2→eat : Place lts.After-enum-told2 t → Place lts.After-eat t
+  told2→eat c = c .before .before .before .before
+
+  abbrev pub match-arguments-arg2→eaten : Place lts.After-match-arguments-arg2 t → Place lts.After-eaten t
+  match-arguments-arg2→eaten c = c .before .before .before
+
+  abbrev pub match-arguments-arg2→eat : Place lts.After-match-arguments-arg2 t → Place lts.After-eat t
+  match-arguments-arg2→eat c = c .before .before .before .before .before .before .before
+
+  abbrev pub match-arguments-arg2→entry : Place lts.After-match-arguments-arg2 t → Place lts.Start t
+  match-arguments-arg2→entry c = eat→entry (match-arguments-arg2→eat c)
+
+  abbrev pub match-arguments→eaten : Place lts.After-match-arguments t → Place lts.After-eaten t
+  match-arguments→eaten c = c .before .before .before .before
+
+  abbrev pub match-arguments→eat : Place lts.After-match-arguments t → Place lts.After-eat t
+  match-arguments→eat c = c .before .before .before .before .before .before .before .before
+
+  abbrev pub match-arguments→of-class : Place lts.After-match-arguments t → Place lts.After-of-class t
+  match-arguments→of-class c = c .before .before .before .before .before .before .before .before .before .before .before .before .before .before
+      .before .before .before
+
+  abbrev pub match-arguments→entry : Place lts.After-match-arguments t → Place lts.Start t
+  match-arguments→entry c = of-class→entry (match-arguments→of-class c)
+
+  abbrev pub told3→match-arguments : Place lts.After-enum-told3 t → Place lts.After-match-arguments t
+  told3→match-arguments c = c .before .before .before .before .before .before
+
+  abbrev pub frame→taken : Place lts.After-frame t → Place lts.After-taken t
+  frame→taken c = c .before .before .before
+
+  abbrev pub frame→match-arguments : Place lts.After-frame t → Place lts.After-match-arguments t
+  frame→match-arguments c = c .before .before .before .before .before .before .before .before .before
+
+  abbrev pub finish-node→taken : Place lts.After-finish-node t → Place lts.After-taken t
+  finish-node→taken c = c .before .before .before .before
+
+  abbrev pub finish-node→match-arguments : Place lts.After-finish-node t → Place lts.After-match-arguments t
+  finish-node→match-arguments c = c .before .before .before .before .before .before .before .before .before .before
+
+  abbrev pub finish-node→entry : Place lts.After-finish-node t → Place lts.Start t
+  finish-node→entry c = match-arguments→entry (finish-node→match-arguments c)
+
+  abbrev pub told4→finish-node : Place lts.After-enum-told4 t → Place lts.After-finish-node t
+  told4→finish-node c = c .before .before .before .before
+
+  abbrev pub extract-holding-trivia-arg→ended : Place lts.After-extract-holding-trivia-arg t → Place lts.After-ended t
+  extract-holding-trivia-arg→ended c = c .before .before
+
+  abbrev pub extract-holding-trivia-arg→finish-node : Place lts.After-extract-holding-trivia-arg t → Place lts.After-finish-node t
+  extract-holding-trivia-arg→finish-node c = c .before .before .before .before .before .before
+
+  abbrev pub extract-holding-trivia→ended : Place lts.After-extract-holding-trivia t → Place lts.After-ended t
+  extract-holding-trivia→ended c = c .before .before .before
+
+  abbrev pub extract-holding-trivia→finish-node : Place lts.After-extract-holding-trivia t → Place lts.After-finish-node t
+  extract-holding-trivia→finish-node c = c .before .before .before .before .before .before .before
+
+  abbrev pub extract-holding-trivia→match-arguments : Place lts.After-extract-holding-trivia t → Place lts.After-match-arguments t
+  extract-holding-trivia→match-arguments c = finish-node→match-arguments (extract-holding-trivia→finish-node c)
+
+  abbrev pub extract-holding-trivia→entry : Place lts.After-extract-holding-trivia t → Place lts.Start t
+  extract-holding-trivia→entry c = match-arguments→entry (extract-holding-trivia→match-arguments c)
+
+  abbrev pub returns-5→extract-holding-trivia : Place lts.After-slice-known8 t → Place lts.After-extract-holding-trivia t
+  returns-5→extract-holding-trivia c = c .before .before

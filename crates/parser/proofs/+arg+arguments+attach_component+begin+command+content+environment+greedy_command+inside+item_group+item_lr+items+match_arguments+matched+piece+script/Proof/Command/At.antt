@@ -55,3 +55,156 @@ Place place t = place (claims t) (measures.command .at t) own.Post
 
 abbrev pub Start : ℕ → Type 0
 Start = Place lts.Start
+
+module _ {t : ℕ} where
+  abbrev pub slice-known2→entry : Place lts.After-slice-known2 t → Place lts.Start t
+  slice-known2→entry c = c .before .before .before .before .before .before
+
+  abbrev pub of-class→of-token : Place lts.After-of-class t → Place lts.After-of-token t
+  of-class→of-token c = c .before
+
+  abbrev pub of-class→entry : Place lts.After-of-class t → Place lts.Start t
+  of-class→entry c = c .before .before .before .before .before .before .before .before
+
+  abbrev pub one-in-arg→entry : Place lts.After-one-in-arg t → Place lts.Start t
+  one-in-arg→entry c = c .before .before .before .before .before .before .before .before .before .before .before
+
+  abbrev pub returns→one-in : Place lts.After-slice-known3 t → Place lts.After-one-in t
+  returns→one-in c = c .before .before
+
+  abbrev pub returns→then1 : Place lts.After-slice-known3 t → Place lts.Then1 t
+  returns→then1 c = c .before .before .before .before
+
+  abbrev pub returns→name-only : Place lts.After-slice-known3 t → Place lts.After-name-only t
+  returns→name-only c = c .before .before .before .before .before
+
+  abbrev pub returns→of-class : Place lts.After-slice-known3 t → Place lts.After-of-class t
+  returns→of-class c = c .before .before .before .before .before .before
+
+  abbrev pub returns→entry : Place lts.After-slice-known3 t → Place lts.Start t
+  returns→entry c = of-class→entry (returns→of-class c)
+
+  abbrev pub else1→name-only : Place lts.Else1 t → Place lts.After-name-only t
+  else1→name-only c = c .before
+
+  abbrev pub else1→of-class : Place lts.Else1 t → Place lts.After-of-class t
+  else1→of-class c = c .before .before
+
+  abbrev pub left1-command-arg→entry : Place lts.After-left1-command-arg t → Place lts.Start t
+  left1-command-arg→entry c = c .before .before .before .before .before .before .before .before .before .before .before .before .before
+
+  abbrev pub returns-2→left1-command : Place lts.After-slice-known4 t → Place lts.After-left1-command t
+  returns-2→left1-command c = c .before .before
+
+  abbrev pub returns-2→then2 : Place lts.After-slice-known4 t → Place lts.Then2 t
+  returns-2→then2 c = c .before .before .before .before
+
+  abbrev pub returns-2→else1 : Place lts.After-slice-known4 t → Place lts.Else1 t
+  returns-2→else1 c = c .before .before .before .before .before .before
+
+  abbrev pub returns-2→of-class : Place lts.After-slice-known4 t → Place lts.After-of-class t
+  returns-2→of-class c = else1→of-class (returns-2→else1 c)
+
+  abbrev pub returns-2→entry : Place lts.After-slice-known4 t → Place lts.Start t
+  returns-2→entry c = of-class→entry (returns-2→of-class c)
+
+  abbrev pub with-marks→list-last : Place lts.After-with-marks t → Place lts.After-list-last t
+  with-marks→list-last c = c .before
+
+  abbrev pub with-marks→list-start : Place lts.After-with-marks t → Place lts.After-list-start t
+  with-marks→list-start c = c .before .before
+
+  abbrev pub with-marks→then3 : Place lts.After-with-marks t → Place lts.Then3 t
+  with-marks→then3 c = c .before .before .before
+
+  abbrev pub with-marks→else2 : Place lts.After-with-marks t → Place lts.Else2 t
+  with-marks→else2 c = c .before .before .before .before .before
+
+  abbrev pub with-marks→else1 : Place lts.After-with-marks t → Place lts.Else1 t
+  with-marks→else1 c = c .before .before .before .before .before .before .before
+
+  abbrev pub with-marks→of-class : Place lts.After-with-marks t → Place lts.After-of-class t
+  with-marks→of-class c = else1→of-class (with-marks→else1 c)
+
+  abbrev pub with-marks→entry : Place lts.After-with-marks t → Place lts.Start t
+  with-marks→entry c = of-class→entry (with-marks→of-class c)
+
+  abbrev pub greedy-command-arg2→with-marks : Place lts.After-greedy-command-arg2 t → Place lts.After-with-marks t
+  greedy-command-arg2→with-marks c = c .before .before
+
+  abbrev pub greedy-command-arg2→list-start : Place lts.After-greedy-command-arg2 t → Place lts.After-list-start t
+  greedy-command-arg2→list-start c = with-marks→list-start (greedy-command-arg2→with-marks c)
+
+  abbrev pub greedy-command-arg2→entry : Place lts.After-greedy-command-arg2 t → Place lts.Start t
+  greedy-command-arg2→entry c = with-marks→entry (greedy-command-arg2→with-marks c)
+
+  abbrev pub returns-3→greedy-command : Place lts.After-slice-known6 t → Place lts.After-greedy-command t
+  returns-3→greedy-command c = c .before .before .before .before
+
+  abbrev pub returns-3→with-marks : Place lts.After-slice-known6 t → Place lts.After-with-marks t
+  returns-3→with-marks c = c .before .before .before .before .before .before .before
+
+  abbrev pub else3→else2 : Place lts.Else3 t → Place lts.Else2 t
+  else3→else2 c = c .before .before
+
+  abbrev pub else3→else1 : Place lts.Else3 t → Place lts.Else1 t
+  else3→else1 c = c .before .before .before .before
+
+  abbrev pub else3→of-class : Place lts.Else3 t → Place lts.After-of-class t
+  else3→of-class c = else1→of-class (else3→else1 c)
+
+  abbrev pub then4→is-greedy : Place lts.Then4 t → Place lts.After-is-greedy t
+  then4→is-greedy c = c .before
+
+  abbrev pub then4→matcher : Place lts.Then4 t → Place lts.After-matcher t
+  then4→matcher c = c .before .before
+
+  abbrev pub then4→of-class : Place lts.Then4 t → Place lts.After-of-class t
+  then4→of-class c = c .before .before .before .before .before .before .before .before .before
+
+  abbrev pub greedy-command-arg4→entry : Place lts.After-greedy-command-arg4 t → Place lts.Start t
+  greedy-command-arg4→entry c = c .before .before .before .before .before .before .before .before .before .before .before .before .before .before
+      .before .before .before .before .before
+
+  abbrev pub returns-4→greedy-command2 : Place lts.After-slice-known8 t → Place lts.After-greedy-command2 t
+  returns-4→greedy-command2 c = c .before .before .before .before
+
+  abbrev pub returns-4→then4 : Place lts.After-slice-known8 t → Place lts.Then4 t
+  returns-4→then4 c = c .before .before .before .before .before .before .before
+
+  abbrev pub returns-4→else3 : Place lts.After-slice-known8 t → Place lts.Else3 t
+  returns-4→else3 c = c .before .before .before .before .before .before .before .before .before .before
+
+  abbrev pub returns-4→of-class : Place lts.After-slice-known8 t → Place lts.After-of-class t
+  returns-4→of-class c = else3→of-class (returns-4→else3 c)
+
+  abbrev pub else4→is-greedy : Place lts.Else4 t → Place lts.After-is-greedy t
+  else4→is-greedy c = c .before
+
+  abbrev pub else4→matcher : Place lts.Else4 t → Place lts.After-matcher t
+  else4→matcher c = c .before .before
+
+  abbrev pub else4→else1 : Place lts.Else4 t → Place lts.Else1 t
+  else4→else1 c = c .before .before .before .before .before .before .before
+
+  abbrev pub else4→of-class : Place lts.Else4 t → Place lts.After-of-class t
+  else4→of-class c = else1→of-class (else4→else1 c)
+
+  abbrev pub matched-arg2→else4 : Place lts.After-matched-arg2 t → Place lts.Else4 t
+  matched-arg2→else4 c = c .before .before
+
+  abbrev pub matched-arg2→entry : Place lts.After-matched-arg2 t → Place lts.Start t
+  matched-arg2→entry c = c .before .before .before .before .before .before .before .before .before .before .before .before .before .before .before
+      .before .before .before .before
+
+  abbrev pub returns-5→matched : Place lts.After-slice-known10 t → Place lts.After-matched t
+  returns-5→matched c = c .before .before .before .before
+
+  abbrev pub returns-5→else4 : Place lts.After-slice-known10 t → Place lts.Else4 t
+  returns-5→else4 c = c .before .before .before .before .before .before .before
+
+  abbrev pub returns-5→else3 : Place lts.After-slice-known10 t → Place lts.Else3 t
+  returns-5→else3 c = c .before .before .before .before .before .before .before .before .before .before
+
+  abbrev pub returns-5→of-class : Place lts.After-slice-known10 t → Place lts.After-of-class t
+  returns-5→of-class c = else3→of-class (returns-5→else3 c)

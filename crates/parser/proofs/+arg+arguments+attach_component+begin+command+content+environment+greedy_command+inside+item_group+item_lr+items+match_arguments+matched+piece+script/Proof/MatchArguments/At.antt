@@ -46,3 +46,100 @@ Place place t = place (claims t) (measures.match-arguments .at t) own.Post
 
 abbrev pub Start : ℕ → Type 0
 Start = Place lts.Start
+
+module _ {t : ℕ} where
+  abbrev pub then1→name-only : Place lts.Then1 t → Place lts.After-name-only t
+  then1→name-only c = c .before
+
+  abbrev pub then1→entry : Place lts.Then1 t → Place lts.Start t
+  then1→entry c = c .before .before .before .before .before .before .before .before
+
+  abbrev pub holding-none→then1 : Place lts.After-holding-none t → Place lts.Then1 t
+  holding-none→then1 c = c .before
+
+  abbrev pub holding-none→entry : Place lts.After-holding-none t → Place lts.Start t
+  holding-none→entry c = then1→entry (holding-none→then1 c)
+
+  abbrev pub else1→name-only : Place lts.Else1 t → Place lts.After-name-only t
+  else1→name-only c = c .before
+
+  abbrev pub else1→entry : Place lts.Else1 t → Place lts.Start t
+  else1→entry c = c .before .before .before .before .before .before .before .before
+
+  abbrev pub then2→is-greedy : Place lts.Then2 t → Place lts.After-is-greedy t
+  then2→is-greedy c = c .before
+
+  abbrev pub then2→matcher : Place lts.Then2 t → Place lts.After-matcher t
+  then2→matcher c = c .before .before
+
+  abbrev pub then2→else1 : Place lts.Then2 t → Place lts.Else1 t
+  then2→else1 c = c .before .before .before
+
+  abbrev pub then2→entry : Place lts.Then2 t → Place lts.Start t
+  then2→entry c = else1→entry (then2→else1 c)
+
+  abbrev pub else2→is-greedy : Place lts.Else2 t → Place lts.After-is-greedy t
+  else2→is-greedy c = c .before
+
+  abbrev pub else2→matcher : Place lts.Else2 t → Place lts.After-matcher t
+  else2→matcher c = c .before .before
+
+  abbrev pub else2→else1 : Place lts.Else2 t → Place lts.Else1 t
+  else2→else1 c = c .before .before .before
+
+  abbrev pub else2→entry : Place lts.Else2 t → Place lts.Start t
+  else2→entry c = else1→entry (else2→else1 c)
+
+  abbrev pub with-marks→else2 : Place lts.After-with-marks t → Place lts.Else2 t
+  with-marks→else2 c = c .before .before
+
+  abbrev pub with-marks→matcher : Place lts.After-with-marks t → Place lts.After-matcher t
+  with-marks→matcher c = else2→matcher (with-marks→else2 c)
+
+  abbrev pub with-marks→entry : Place lts.After-with-marks t → Place lts.Start t
+  with-marks→entry c = else2→entry (with-marks→else2 c)
+
+  abbrev pub holding-none2→with-marks : Place lts.After-holding-none2 t → Place lts.After-with-marks t
+  holding-none2→with-marks c = c .before .before
+
+  abbrev pub holding-none2→matcher : Place lts.After-holding-none2 t → Place lts.After-matcher t
+  holding-none2→matcher c = with-marks→matcher (holding-none2→with-marks c)
+
+  abbrev pub holding-none2→entry : Place lts.After-holding-none2 t → Place lts.Start t
+  holding-none2→entry c = with-marks→entry (holding-none2→with-marks c)
+
+  abbrev pub arguments-arg2→holding-none2 : Place lts.After-arguments-arg2 t → Place lts.After-holding-none2 t
+  arguments-arg2→holding-none2 c = c .before .before
+
+  abbrev pub arguments-arg2→with-marks : Place lts.After-arguments-arg2 t → Place lts.After-with-marks t
+  arguments-arg2→with-marks c = holding-none2→with-marks (arguments-arg2→holding-none2 c)
+
+  abbrev pub arguments-arg2→entry : Place lts.After-arguments-arg2 t → Place lts.Start t
+  arguments-arg2→entry c = with-marks→entry (arguments-arg2→with-marks c)
+
+  abbrev pub arguments→holding-none2 : Place lts.After-arguments t → Place lts.After-holding-none2 t
+  arguments→holding-none2 c = c .before .before .before
+
+  abbrev pub arguments→entry : Place lts.After-arguments t → Place lts.Start t
+  arguments→entry c = holding-none2→entry (arguments→holding-none2 c)
+
+  abbrev pub again→arguments : Place lts.After-again t → Place lts.After-arguments t
+  again→arguments c = c .before .before .before .before .before .before .before
+
+  abbrev pub with-marks2→read : Place lts.After-with-marks2 t → Place lts.After-read t
+  with-marks2→read c = c .before .before
+
+  abbrev pub with-marks2→arguments : Place lts.After-with-marks2 t → Place lts.After-arguments t
+  with-marks2→arguments c = c .before .before .before .before .before .before .before .before
+
+  abbrev pub with-marks2→list-last : Place lts.After-with-marks2 t → Place lts.After-list-last t
+  with-marks2→list-last c = c .before .before .before .before .before .before .before .before .before .before .before .before
+
+  abbrev pub with-marks2→with-marks : Place lts.After-with-marks2 t → Place lts.After-with-marks t
+  with-marks2→with-marks c = c .before .before .before .before .before .before .before .before .before .before .before .before .before
+
+  abbrev pub with-marks2→list-start : Place lts.After-with-marks2 t → Place lts.After-list-start t
+  with-marks2→list-start c = c .before .before .before .before .before .before .before .before .before .before .before .before .before .before
+
+  abbrev pub with-marks2→entry : Place lts.After-with-marks2 t → Place lts.Start t
+  with-marks2→entry c = with-marks→entry (with-marks2→with-marks c)
