@@ -11,7 +11,7 @@ use Rattle.rules.specs.Cursor.{Cursor, peek}
 use Rattle.rules.specs.Flat.{flat}
 use Rattle.rules.specs.Items.{Item, plain, error, word, comma, group, attachment, command, environment, leftRight, skipped, itemOf}
 use Rattle.rules.specs.Kinds.{isTrivia}
-use Rattle.rules.specs.Outcome.{went}
+use Rattle.rules.specs.Outcome.{Out, went}
 use Rattle.rules.specs.Position as position
 use Rattle.rules.specs.Position.{asked}
 use Rattle.rules.specs.Reading as spec
@@ -23,10 +23,14 @@ use Rattle.rules.specs.Token.{Word}
 use Rattle.rules.proofs.Characters.{either}
 use Rattle.lexer.proofs.Laws.{peek-some}
 use Rattle.routines.proofs.Eating.{asked-there}
-use Rattle.parser.specs.Member.{isWord}
+use Rattle.routines.specs.Contract.{isWord}
 
-pub word-there : (tokens : List ℕ) (c : Cursor) → asked isWord (peek tokens c) ≡ true → (c .token < tokenCount tokens) × (kindAt tokens (c .token) ≡ Word)
-word-there tokens c e = let there = asked-there isWord tokens c e in (there, eqb-true (kindAt tokens (c .token)) Word (sym (ap (asked isWord) (peek-some tokens c there)) ∙ e))
+pub word-there : (tokens : List ℕ) (c : Cursor) → asked isWord (peek tokens c) ≡ true
+    → (c .token < tokenCount tokens) × (kindAt tokens (c .token) ≡ Word)
+word-there tokens c e =
+    let there = asked-there isWord tokens c e in
+    let is-word = sym (ap (asked isWord) (peek-some tokens c there)) ∙ e in
+    (there, eqb-true (kindAt tokens (c .token)) Word is-word)
 
 a-word : (k : Option ℕ) → asked isWord k ≡ true → k ≡ some Word
 a-word none e = absurd (false≢true e)
@@ -66,8 +70,12 @@ other-item kind e =
 -- ---- what is read
 
 module _ (n : ℕ) (t : Tables) (p : position.At (flat n)) where
+  -- a Word is next, or something else
+  abbrev WordNext : Bool → Type 0
+  WordNext is = asked isWord (peek (t .tokens) (p .lexer)) ≡ is
+
   -- a Word is no trivia
-  pub no-trivia : asked isWord (peek (t .tokens) (p .lexer)) ≡ true → routine.trivia (flat n) (sourceOf t) p ≡ went p
+  pub no-trivia : WordNext true → routine.trivia (flat n) (sourceOf t) p ≡ went p
   unfolding routine.trivia routine.eatWhile isTrivia
   no-trivia e = stays (routine.turns (flat n) (sourceOf t) p)
     where
@@ -76,11 +84,21 @@ module _ (n : ℕ) (t : Tables) (p : position.At (flat n)) where
       stays (suc fuel) = rw (a-word (peek (t .tokens) (p .lexer)) e)
 
   module _ (inside : Bool → position.Rule (flat n)) where
-    pub one-character : asked isWord (peek (t .tokens) (p .lexer)) ≡ true → spec.content (flat n) (sourceOf t) inside true p ≡ routine.singleChar (flat n) (sourceOf t) p
+    -- what is read, where one character of a Word is enough or the whole is read
+    abbrev read : Bool → Out (position.At (flat n))
+    read single = spec.content (flat n) (sourceOf t) inside single p
+
+    abbrev readItem : Bool → Item → Out (position.At (flat n))
+    readItem single i = spec.readItem (flat n) (sourceOf t) inside single i p
+
+    abbrev readKind : Bool → Option ℕ → Out (position.At (flat n))
+    readKind single k = spec.contentFor (flat n) (sourceOf t) inside k single p
+
+    pub one-character : WordNext true → read true ≡ routine.singleChar (flat n) (sourceOf t) p
     unfolding spec.content spec.readItem
     one-character e = rw (a-word (peek (t .tokens) (p .lexer)) e)
 
-    same-item : (i : Item) → isWordItem i ≡ false → spec.readItem (flat n) (sourceOf t) inside true i p ≡ spec.readItem (flat n) (sourceOf t) inside false i p
+    same-item : (i : Item) → isWordItem i ≡ false → readItem true i ≡ readItem false i
     unfolding spec.readItem
     same-item plain e = refl
     same-item error e = refl
@@ -93,10 +111,10 @@ module _ (n : ℕ) (t : Tables) (p : position.At (flat n)) where
     same-item leftRight e = refl
     same-item (skipped node) e = refl
 
-    same-kind : (k : Option ℕ) → asked isWord k ≡ false → spec.contentFor (flat n) (sourceOf t) inside k true p ≡ spec.contentFor (flat n) (sourceOf t) inside k false p
+    same-kind : (k : Option ℕ) → asked isWord k ≡ false → readKind true k ≡ readKind false k
     same-kind none e = refl
     same-kind (some kind) e = same-item (itemOf kind) (other-item kind e)
 
-    pub whole-item : asked isWord (peek (t .tokens) (p .lexer)) ≡ false → spec.content (flat n) (sourceOf t) inside true p ≡ spec.content (flat n) (sourceOf t) inside false p
+    pub whole-item : WordNext false → read true ≡ read false
     unfolding spec.content
     whole-item e = same-kind (peek (t .tokens) (p .lexer)) e

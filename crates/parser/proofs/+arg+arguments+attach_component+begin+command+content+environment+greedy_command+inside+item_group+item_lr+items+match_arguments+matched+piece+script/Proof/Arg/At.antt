@@ -31,3 +31,52 @@ Place place t = place (claims t) (measures.arg .at t) own.Post
 
 abbrev pub Start : ℕ → Type 0
 Start = Place lts.Start
+
+module _ {t : ℕ} where
+  abbrev pub begin-argument-arg2→entry : Place lts.After-begin-argument-arg2 t → Place lts.Start t
+  begin-argument-arg2→entry c = c .before .before .before .before .before .before .before .before
+
+  abbrev pub begin-argument→entry : Place lts.After-begin-argument t → Place lts.Start t
+  begin-argument→entry c = c .before .before .before .before .before .before .before .before .before
+
+  abbrev pub told→begin-argument : Place lts.After-enum-told t → Place lts.After-begin-argument t
+  told→begin-argument c = c .before .before .before .before .before .before
+
+  abbrev pub piece-arg2→opened : Place lts.After-piece-arg2 t → Place lts.After-opened t
+  piece-arg2→opened c = c .before .before .before
+
+  abbrev pub piece-arg2→begin-argument : Place lts.After-piece-arg2 t → Place lts.After-begin-argument t
+  piece-arg2→begin-argument c = c .before .before .before .before .before .before .before .before .before
+
+  abbrev pub piece-arg2→entry : Place lts.After-piece-arg2 t → Place lts.Start t
+  piece-arg2→entry c = begin-argument→entry (piece-arg2→begin-argument c)
+
+  abbrev pub piece→opened : Place lts.After-piece t → Place lts.After-opened t
+  piece→opened c = c .before .before .before .before
+
+  abbrev pub piece→begin-argument : Place lts.After-piece t → Place lts.After-begin-argument t
+  piece→begin-argument c = c .before .before .before .before .before .before .before .before .before .before
+
+  abbrev pub piece→entry : Place lts.After-piece t → Place lts.Start t
+  piece→entry c = begin-argument→entry (piece→begin-argument c)
+
+  abbrev pub told2→piece : Place lts.After-enum-told2 t → Place lts.After-piece t
+  told2→piece c = c .before .before .before .before .before .before
+
+  abbrev pub frame→taken : Place lts.After-frame t → Place lts.After-taken t
+  frame→taken c = c .before .before .before
+
+  abbrev pub frame→piece : Place lts.After-frame t → Place lts.After-piece t
+  frame→piece c = c .before .before .before .before .before .before .before .before .before
+
+  abbrev pub end-argument→taken : Place lts.After-end-argument t → Place lts.After-taken t
+  end-argument→taken c = c .before .before .before .before
+
+  abbrev pub end-argument→piece : Place lts.After-end-argument t → Place lts.After-piece t
+  end-argument→piece c = c .before .before .before .before .before .before .before .before .before .before
+
+  abbrev pub end-argument→entry : Place lts.After-end-argument t → Place lts.Start t
+  end-argument→entry c = piece→entry (end-argument→piece c)
+
+  abbrev pub returns-3→end-argument : Place lts.After-slice-known7 t → Place lts.After-end-argument t
+  returns-3→end-argument c = c .before .before

@@ -40,3 +40,106 @@ Place place t = place (claims t) (measures.attach-component .at t) own.Post
 
 abbrev pub Start : ℕ → Type 0
 Start = Place lts.Start
+
+module _ {t : ℕ} where
+  abbrev pub eat-arg→entry : Place lts.After-eat-arg t → Place lts.Start t
+  eat-arg→entry c = c .before .before .before .before .before .before .before .before .before .before .before
+
+  abbrev pub returns→eat : Place lts.After-slice-known3 t → Place lts.After-eat t
+  returns→eat c = c .before .before
+
+  abbrev pub returns→then2 : Place lts.After-slice-known3 t → Place lts.Then2 t
+  returns→then2 c = c .before .before .before .before
+
+  abbrev pub returns→is-nothing : Place lts.After-slice-known3 t → Place lts.After-is-nothing t
+  returns→is-nothing c = c .before .before .before .before .before
+
+  abbrev pub returns→then1 : Place lts.After-slice-known3 t → Place lts.Then1 t
+  returns→then1 c = c .before .before .before .before .before .before
+
+  abbrev pub returns→list-last : Place lts.After-slice-known3 t → Place lts.After-list-last t
+  returns→list-last c = c .before .before .before .before .before .before .before
+
+  abbrev pub returns→entry : Place lts.After-slice-known3 t → Place lts.Start t
+  returns→entry c = c .before .before .before .before .before .before .before .before .before .before .before .before .before .before
+
+  abbrev pub start-around-arg→list-last : Place lts.After-start-around-arg t → Place lts.After-list-last t
+  start-around-arg→list-last c = c .before .before
+
+  abbrev pub start-around-arg→entry : Place lts.After-start-around-arg t → Place lts.Start t
+  start-around-arg→entry c = c .before .before .before .before .before .before .before .before .before
+
+  abbrev pub start-around→joined1 : Place lts.After-start-around t → Place lts.Joined1 t
+  start-around→joined1 c = c .before .before
+
+  abbrev pub start-around→list-last : Place lts.After-start-around t → Place lts.After-list-last t
+  start-around→list-last c = c .before .before .before
+
+  abbrev pub start-around→entry : Place lts.After-start-around t → Place lts.Start t
+  start-around→entry c = c .before .before .before .before .before .before .before .before .before .before
+
+  abbrev pub told→start-around : Place lts.After-enum-told t → Place lts.After-start-around t
+  told→start-around c = c .before .before .before .before
+
+  abbrev pub eat-arg2→opened : Place lts.After-eat-arg2 t → Place lts.After-opened t
+  eat-arg2→opened c = c .before .before
+
+  abbrev pub eat-arg2→start-around : Place lts.After-eat-arg2 t → Place lts.After-start-around t
+  eat-arg2→start-around c = c .before .before .before .before .before .before
+
+  abbrev pub eat-arg2→list-last : Place lts.After-eat-arg2 t → Place lts.After-list-last t
+  eat-arg2→list-last c = start-around→list-last (eat-arg2→start-around c)
+
+  abbrev pub eat-arg2→entry : Place lts.After-eat-arg2 t → Place lts.Start t
+  eat-arg2→entry c = start-around→entry (eat-arg2→start-around c)
+
+  abbrev pub eat2→opened : Place lts.After-eat2 t → Place lts.After-opened t
+  eat2→opened c = c .before .before .before
+
+  abbrev pub eat2→start-around : Place lts.After-eat2 t → Place lts.After-start-around t
+  eat2→start-around c = c .before .before .before .before .before .before .before
+
+  abbrev pub eat2→entry : Place lts.After-eat2 t → Place lts.Start t
+  eat2→entry c = start-around→entry (eat2→start-around c)
+
+  abbrev pub told2→eat2 : Place lts.After-enum-told2 t → Place lts.After-eat2 t
+  told2→eat2 c = c .before .before .before .before
+
+  abbrev pub script-arg2→eaten : Place lts.After-script-arg2 t → Place lts.After-eaten t
+  script-arg2→eaten c = c .before .before .before
+
+  abbrev pub script-arg2→eat2 : Place lts.After-script-arg2 t → Place lts.After-eat2 t
+  script-arg2→eat2 c = c .before .before .before .before .before .before .before
+
+  abbrev pub script-arg2→entry : Place lts.After-script-arg2 t → Place lts.Start t
+  script-arg2→entry c = eat2→entry (script-arg2→eat2 c)
+
+  abbrev pub script→eaten : Place lts.After-script t → Place lts.After-eaten t
+  script→eaten c = c .before .before .before .before
+
+  abbrev pub script→eat2 : Place lts.After-script t → Place lts.After-eat2 t
+  script→eat2 c = c .before .before .before .before .before .before .before .before
+
+  abbrev pub script→entry : Place lts.After-script t → Place lts.Start t
+  script→entry c = eat2→entry (script→eat2 c)
+
+  abbrev pub told3→script : Place lts.After-enum-told3 t → Place lts.After-script t
+  told3→script c = c .before .before .before .before .before .before
+
+  abbrev pub frame→scripted : Place lts.After-frame t → Place lts.After-scripted t
+  frame→scripted c = c .before .before .before
+
+  abbrev pub frame→script : Place lts.After-frame t → Place lts.After-script t
+  frame→script c = c .before .before .before .before .before .before .before .before .before
+
+  abbrev pub finish-node→scripted : Place lts.After-finish-node t → Place lts.After-scripted t
+  finish-node→scripted c = c .before .before .before .before
+
+  abbrev pub finish-node→script : Place lts.After-finish-node t → Place lts.After-script t
+  finish-node→script c = c .before .before .before .before .before .before .before .before .before .before
+
+  abbrev pub finish-node→entry : Place lts.After-finish-node t → Place lts.Start t
+  finish-node→entry c = script→entry (finish-node→script c)
+
+  abbrev pub returns-5→finish-node : Place lts.After-slice-known8 t → Place lts.After-finish-node t
+  returns-5→finish-node c = c .before .before

@@ -55,3 +55,130 @@ Place place t = place (claims t) (measures.content .at t) own.Post
 
 abbrev pub Start : ℕ → Type 0
 Start = Place lts.Start
+
+module _ {t : ℕ} where
+  abbrev pub slice-known2→entry : Place lts.After-slice-known2 t → Place lts.Start t
+  slice-known2→entry c = c .before .before .before .before .before .before
+
+  abbrev pub item-of→entry : Place lts.After-item-of t → Place lts.Start t
+  item-of→entry c = c .before .before .before .before .before .before .before .before
+
+  abbrev pub eat-arg→entry : Place lts.After-eat-arg t → Place lts.Start t
+  eat-arg→entry c = c .before .before .before .before .before .before .before .before .before .before .before
+
+  abbrev pub returns→eat : Place lts.After-slice-known3 t → Place lts.After-eat t
+  returns→eat c = c .before .before
+
+  abbrev pub returns→told : Place lts.After-slice-known3 t → Place lts.After-enum-told t
+  returns→told c = c .before .before .before .before
+
+  abbrev pub returns→item-of : Place lts.After-slice-known3 t → Place lts.After-item-of t
+  returns→item-of c = c .before .before .before .before .before .before
+
+  abbrev pub returns→entry : Place lts.After-slice-known3 t → Place lts.Start t
+  returns→entry c = item-of→entry (returns→item-of c)
+
+  abbrev pub one-in-arg→entry : Place lts.After-one-in-arg t → Place lts.Start t
+  one-in-arg→entry c = c .before .before .before .before .before .before .before .before .before .before .before
+
+  abbrev pub returns-2→one-in : Place lts.After-slice-known4 t → Place lts.After-one-in t
+  returns-2→one-in c = c .before .before
+
+  abbrev pub returns-2→told2 : Place lts.After-slice-known4 t → Place lts.After-enum-told2 t
+  returns-2→told2 c = c .before .before .before .before
+
+  abbrev pub returns-2→item-of : Place lts.After-slice-known4 t → Place lts.After-item-of t
+  returns-2→item-of c = c .before .before .before .before .before .before
+
+  abbrev pub returns-2→entry : Place lts.After-slice-known4 t → Place lts.Start t
+  returns-2→entry c = item-of→entry (returns-2→item-of c)
+
+  abbrev pub text-arg→entry : Place lts.After-text-arg t → Place lts.Start t
+  text-arg→entry c = c .before .before .before .before .before .before .before .before .before .before
+
+  abbrev pub returns-3→text : Place lts.After-slice-known5 t → Place lts.After-text t
+  returns-3→text c = c .before .before
+
+  abbrev pub returns-3→match-keys3 : Place lts.After-slice-known5 t → Place lts.At-match-keys3 t
+  returns-3→match-keys3 c = c .before .before .before .before
+
+  abbrev pub returns-3→item-of : Place lts.After-slice-known5 t → Place lts.After-item-of t
+  returns-3→item-of c = c .before .before .before .before .before
+
+  abbrev pub returns-3→entry : Place lts.After-slice-known5 t → Place lts.Start t
+  returns-3→entry c = item-of→entry (returns-3→item-of c)
+
+  abbrev pub item-group-arg2→entry : Place lts.After-item-group-arg2 t → Place lts.Start t
+  item-group-arg2→entry c = c .before .before .before .before .before .before .before .before .before .before .before .before .before
+
+  abbrev pub again→item-group : Place lts.After-again t → Place lts.After-item-group t
+  again→item-group c = c .before .before .before .before .before
+
+  abbrev pub again→item : Place lts.After-again t → Place lts.After-item t
+  again→item c = c .before .before .before .before .before .before .before .before .before
+
+  abbrev pub again→item-of : Place lts.After-again t → Place lts.After-item-of t
+  again→item-of c = c .before .before .before .before .before .before .before .before .before .before .before
+
+  abbrev pub attach-component-arg2→entry : Place lts.After-attach-component-arg2 t → Place lts.Start t
+  attach-component-arg2→entry c = c .before .before .before .before .before .before .before .before .before .before .before .before .before
+
+  abbrev pub returns-5→attach-component : Place lts.After-slice-known9 t → Place lts.After-attach-component t
+  returns-5→attach-component c = c .before .before .before .before
+
+  abbrev pub returns-5→item2 : Place lts.After-slice-known9 t → Place lts.After-item2 t
+  returns-5→item2 c = c .before .before .before .before .before .before .before .before
+
+  abbrev pub returns-5→item-of : Place lts.After-slice-known9 t → Place lts.After-item-of t
+  returns-5→item-of c = c .before .before .before .before .before .before .before .before .before .before
+
+  abbrev pub command-arg2→entry : Place lts.After-command-arg2 t → Place lts.Start t
+  command-arg2→entry c = c .before .before .before .before .before .before .before .before .before .before .before .before
+
+  abbrev pub returns-6→command : Place lts.After-slice-known11 t → Place lts.After-command t
+  returns-6→command c = c .before .before .before .before
+
+  abbrev pub returns-6→told3 : Place lts.After-slice-known11 t → Place lts.After-enum-told3 t
+  returns-6→told3 c = c .before .before .before .before .before .before .before
+
+  abbrev pub returns-6→item-of : Place lts.After-slice-known11 t → Place lts.After-item-of t
+  returns-6→item-of c = c .before .before .before .before .before .before .before .before .before
+
+  abbrev pub environment-arg2→entry : Place lts.After-environment-arg2 t → Place lts.Start t
+  environment-arg2→entry c = c .before .before .before .before .before .before .before .before .before .before .before .before
+
+  abbrev pub returns-7→environment : Place lts.After-slice-known13 t → Place lts.After-environment t
+  returns-7→environment c = c .before .before .before .before
+
+  abbrev pub returns-7→told4 : Place lts.After-slice-known13 t → Place lts.After-enum-told4 t
+  returns-7→told4 c = c .before .before .before .before .before .before .before
+
+  abbrev pub returns-7→item-of : Place lts.After-slice-known13 t → Place lts.After-item-of t
+  returns-7→item-of c = c .before .before .before .before .before .before .before .before .before
+
+  abbrev pub item-lr-arg2→entry : Place lts.After-item-lr-arg2 t → Place lts.Start t
+  item-lr-arg2→entry c = c .before .before .before .before .before .before .before .before .before .before .before .before
+
+  abbrev pub returns-8→item-lr : Place lts.After-slice-known15 t → Place lts.After-item-lr t
+  returns-8→item-lr c = c .before .before .before .before
+
+  abbrev pub returns-8→told5 : Place lts.After-slice-known15 t → Place lts.After-enum-told5 t
+  returns-8→told5 c = c .before .before .before .before .before .before .before
+
+  abbrev pub returns-8→item-of : Place lts.After-slice-known15 t → Place lts.After-item-of t
+  returns-8→item-of c = c .before .before .before .before .before .before .before .before .before
+
+  abbrev pub skipped-body-arg2→entry : Place lts.After-skipped-body-arg2 t → Place lts.Start t
+  skipped-body-arg2→entry c = c .before .before .before .before .before .before .before .before .before .before .before .before .before
+
+  abbrev pub returns-9→skipped-body : Place lts.After-slice-known17 t → Place lts.After-skipped-body t
+  returns-9→skipped-body c = c .before .before .before .before
+
+  abbrev pub returns-9→item3 : Place lts.After-slice-known17 t → Place lts.After-item3 t
+  returns-9→item3 c = c .before .before .before .before .before .before .before .before
+
+  abbrev pub returns-9→item-of : Place lts.After-slice-known17 t → Place lts.After-item-of t
+  returns-9→item-of c = c .before .before .before .before .before .before .before .before .before .before
+
+  abbrev pub returns-9→entry : Place lts.After-slice-known17 t → Place lts.Start t
+  returns-9→entry c = item-of→entry (returns-9→item-of c)

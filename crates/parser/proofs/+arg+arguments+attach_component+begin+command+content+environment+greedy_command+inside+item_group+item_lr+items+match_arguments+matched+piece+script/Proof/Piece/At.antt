@@ -28,3 +28,34 @@ Place place t = place (claims t) (measures.piece .at t) own.Post
 
 abbrev pub Start : ℕ → Type 0
 Start = Place lts.Start
+
+module _ {t : ℕ} where
+  abbrev pub item-group-arg2→entry : Place lts.After-item-group-arg2 t → Place lts.Start t
+  item-group-arg2→entry c = c .before .before .before .before .before .before .before .before .before .before .before
+
+  abbrev pub returns→item-group : Place lts.After-slice-known4 t → Place lts.After-item-group t
+  returns→item-group c = c .before .before .before .before
+
+  abbrev pub returns→what : Place lts.After-slice-known4 t → Place lts.After-what t
+  returns→what c = c .before .before .before .before .before .before .before .before
+
+  abbrev pub eat-arg→entry : Place lts.After-eat-arg t → Place lts.Start t
+  eat-arg→entry c = c .before .before .before .before .before .before .before .before .before
+
+  abbrev pub returns-2→eat : Place lts.After-slice-known5 t → Place lts.After-eat t
+  returns-2→eat c = c .before .before
+
+  abbrev pub returns-2→told : Place lts.After-slice-known5 t → Place lts.After-enum-told t
+  returns-2→told c = c .before .before .before .before
+
+  abbrev pub returns-2→entry : Place lts.After-slice-known5 t → Place lts.Start t
+  returns-2→entry c = c .before .before .before .before .before .before .before .before .before .before .before .before
+
+  abbrev pub inside-arg2→entry : Place lts.After-inside-arg2 t → Place lts.Start t
+  inside-arg2→entry c = c .before .before .before .before .before .before .before .before .before .before
+
+  abbrev pub returns-3→inside : Place lts.After-slice-known7 t → Place lts.After-inside t
+  returns-3→inside c = c .before .before .before .before
+
+  abbrev pub returns-3→told2 : Place lts.After-slice-known7 t → Place lts.After-enum-told2 t
+  returns-3→told2 c = c .before .before .before .before .before .before .before
