@@ -2,3 +2,4 @@
 pub mod Scopes
 pub mod Arms
 pub mod Lines
+pub mod Only
