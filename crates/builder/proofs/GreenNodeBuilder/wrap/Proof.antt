@@ -1,6 +1,7 @@
 -- `GreenNodeBuilder::wrap` meets its contract: all that can refuse it is asked before a row moves, in the rule's order; then both openings go, and
 -- the end of the inner node is the answer. Assumes nothing.
 use mathlib.Core.Path.{refl, ap}
+use native.Mathlib.Omega.{arith}
 use borrow.Author.Needs.{needs}
 use Rattle.rules.proofs.Flat.{wrap-before, wrap-deep, wrap-full, wrap-deeper, wrap-fuller}
 use Rattle.builder.specs.Stands.{frameOf}
@@ -35,16 +36,18 @@ returns-3 c =
 returns-4 : tie.Need-returns-4
 returns-4 c =
     let asked = c .before .before in
+    let deep = c .if4 .taken in
     record {
-      is = wrap-deeper _ _ _ _ _ (inside (few asked) .if1 .left) (few asked .if2 .left) (asked .if3 .left) (c .if4 .taken);
+      is = wrap-deeper _ _ _ _ _ (inside (few asked) .if1 .left) (few asked .if2 .left) (asked .if3 .left) (omega arith);
       rest = refl;
     }
 
 returns-5 : tie.Need-returns-5
 returns-5 c =
     let asked = c .before .before in
+    let full = c .if5 .taken in
     record {
-      is = wrap-fuller _ _ _ _ _ (inside (few (roomy asked)) .if1 .left) (asked .if4 .left) (roomy asked .if3 .left) (c .if5 .taken);
+      is = wrap-fuller _ _ _ _ _ (inside (few (roomy asked)) .if1 .left) (asked .if4 .left) (roomy asked .if3 .left) (omega arith);
       rest = refl;
     }
 

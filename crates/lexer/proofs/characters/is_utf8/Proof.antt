@@ -31,7 +31,8 @@ wide-len-requires c κs =
     let inside = branch .before .before in
     let at = inside .before .loop .at in
     let all = bytes (inside .before) in
-    rw (to-the-end all at) (wide all at (inside .loop-test .taken) (branch .if1 .left))
+    let high = branch .if1 .left in
+    rw (to-the-end all at) (wide all at (inside .loop-test .taken) (omega arith))
 
 -- the turn in which a size is found
 abbrev inside : tie.Joined1 Inv-loop μ-loop → tie.In-loop Inv-loop μ-loop
