@@ -1,6 +1,6 @@
--- A contract fixes the answer: two answers that stand for the same value of the rules are the same, since that value leads back to them.
+-- The contracts fix the answers: two answers that stand for the same value of the rules are the same, since that value leads back to them.
 -- Assumes nothing.
-use mathlib.Core.Path.{_≡_, refl, sym, _∙_, ap}
+use mathlib.Core.Path.{_≡_, refl, ap}
 use Rattle.rules.specs.Matcher as rules
 use Rattle.arg_match.specs.Answers.{matchedOf, matcherOf, triedOf}
 use Rattle.arg_match.specs.declared.ArgMatcher.{ArgMatcher}
@@ -9,10 +9,11 @@ use Rattle.arg_match.specs.declared.Tried.{Tried}
 use Rattle.arg_match.specs.declared.Tried.the-variants as tried
 use Rattle.arg_match.specs.declared.Matched.{Matched}
 use Rattle.arg_match.specs.declared.Matched.the-variants as matched
-
-module _ {A B : Type 0} (of : A → B) (back : B → A) (returns : (a : A) → back (of a) ≡ a) where
-  fixed : (a b : A) → of a ≡ of b → a ≡ b
-  fixed a b e = sym (returns a) ∙ ap back e ∙ returns b
+use Rattle.syntax.proofs.Only.{Only, equal, fixed, stands}
+use Rattle.arg_match.proofs.ArgMatcher.is_greedy.Reads as is-greedy
+use Rattle.arg_match.proofs.ArgMatcher.match_as_term.Reads as match-as-term
+use Rattle.arg_match.proofs.ArgMatcher.start_match.Reads as start-match
+use Rattle.arg_match.proofs.ArgMatcher.try_match.Reads as try-match
 
 abbrev matcher : rules.Matcher → ArgMatcher
 matcher rules.nothing = None
@@ -52,3 +53,16 @@ from-matched (matched.Bare m) = ap matched.Bare (from-matcher m)
 
 pub one-matched : (a b : Matched) → matchedOf a ≡ matchedOf b → a ≡ b
 one-matched = fixed matchedOf matched-of from-matched
+
+-- ---- the public functions
+pub only-start-match : Only start-match.Post
+only-start-match = stands matcherOf matcher from-matcher
+
+pub only-is-greedy : Only is-greedy.Post
+only-is-greedy = equal
+
+pub only-try-match : Only try-match.Post
+only-try-match = stands triedOf tried-of from-tried
+
+pub only-match-as-term : Only match-as-term.Post
+only-match-as-term = stands matchedOf matched-of from-matched

@@ -79,7 +79,10 @@ start-row : (m : Checkpoint) (b : GreenNodeBuilder) (t : List ℕ) → Within b 
 unfolding flat.startAtRow
 start-row m b t within inside le = by-test (eqb (m .children) (b .first)) refl
   where
-    by-test : (test : Bool) → eqb (m .children) (b .first) ≡ test → (m .children ≤ cond test (b .node + 1) (m .row)) × (cond test (b .node + 1) (m .row) ≤ b .rows)
+    row : Bool → ℕ
+    row test = cond test (b .node + 1) (m .row)
+
+    by-test : (test : Bool) → eqb (m .children) (b .first) ≡ test → (m .children ≤ row test) × (row test ≤ b .rows)
     by-test true e = let same = eqb-true (m .children) (b .first) e in (omega arith, omega arith)
     by-test false e = (inside .children, inside .row)
 

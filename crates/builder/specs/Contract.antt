@@ -1,8 +1,10 @@
 -- What the contracts of the builder's functions say.
 use Prim.Native.Nat.{ℕ, _+_, _*_, _≤_, _<_}
 use mathlib.Core.Path.{_≡_}
-use mathlib.Core.List.{List}
-use lib.ListN.{length, drop}
+use mathlib.Core.List.{List, _++_}
+use denote.Ref.{RefT}
+use denote.Triple.Both.{Both}
+use lib.ListN.{length, take, drop}
 use Rattle.rules.specs.Limits
 use Rattle.rules.specs.Flat.{Rows, startedAt, startAtRow}
 use Rattle.rules.specs.Outcome.{Out}
@@ -11,6 +13,10 @@ use Rattle.builder.specs.declared.GreenNodeBuilder.{GreenNodeBuilder}
 use Rattle.builder.specs.declared.Built.{Built}
 use Rattle.builder.specs.declared.Built.the-variants.{Went, Refused}
 use Rattle.builder.specs.Stands.{rowsOf, markOf, outOf}
+
+-- rows of so many numbers: one is written over what stands there
+abbrev pub written : (width row : ℕ) (numbers t : List ℕ) → List ℕ
+written width row numbers t = take (row * width) t ++ (numbers ++ drop (row * width + width) t)
 
 -- the rows lie in the buffer, and nothing is counted that is no row
 pub record Fits (b : GreenNodeBuilder) (t : List ℕ) : Type 0 where
@@ -38,6 +44,14 @@ Leaves (Refused number place) t v = v ≡ t
 pub record Did (want : ℕ → Out Rows) (t : List ℕ) (r : Built) (v : List ℕ) : Type 0 where
   pub is : want (length t) ≡ outOf r v
   pub rest : Leaves r t v
+
+-- a lent buffer as an `ensures` has it, at the entry and at the exit
+abbrev pub Lent : Type 0
+Lent = Both (RefT (List ℕ)) (RefT (List ℕ))
+
+-- an operation on the builder's numbers and its buffer goes by a rule of the rows, which takes the buffer's length
+abbrev pub Goes : (rule : ℕ → Rows → Out Rows) (b : GreenNodeBuilder) (tree : Lent) (r : Built) → Type 0
+Goes rule b tree r = Did (λ n. rule n (rowsOf b (tree .entry .now))) (tree .entry .now) r (tree .exit .now)
 
 -- where a start row goes for a mark, and between which rows that is
 pub record StartRow (b : GreenNodeBuilder) (t : List ℕ) (m : Checkpoint) (row : ℕ) : Type 0 where

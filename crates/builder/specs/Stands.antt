@@ -13,7 +13,16 @@ use Rattle.builder.specs.declared.Built.the-variants.{Went, Refused}
 
 -- the rows are the buffer's first numbers
 abbrev pub rowsOf : GreenNodeBuilder → List ℕ → Rows
-rowsOf b t = record { rows = b .rows; leaves = b .leaves; depth = b .depth; children = b .children; first = b .first; node = b .node; tree = take (b .rows * Limits.treeWidth) t }
+rowsOf b t =
+    record {
+      rows = b .rows;
+      leaves = b .leaves;
+      depth = b .depth;
+      children = b .children;
+      first = b .first;
+      node = b .node;
+      tree = take (b .rows * Limits.treeWidth) t;
+    }
 
 abbrev pub markOf : Checkpoint → Mark
 markOf m = record { children = m .children; row = m .row }

@@ -7,7 +7,7 @@ ghost use lib.ListN.{length};
 ghost use Rattle.rules.specs.Limits.{treeWidth, nodes};
 ghost use Rattle.rules.specs.Flat as flat;
 ghost use Rattle.builder.specs.Stands.{rowsOf, markOf, frameOf};
-ghost use Rattle.builder.specs.Contract.{Fits, Within, Inside, Did, StartRow, Opened};
+ghost use Rattle.builder.specs.Contract.{Fits, Within, Inside, Goes, StartRow, Opened};
 
 mod dropped;
 mod rows;
@@ -85,7 +85,7 @@ impl GreenNodeBuilder {
     // A leaf of the innermost open node.
     pub fn token(self, tree: &mut [u32], place: usize, kind: u32, start: u32, size: u32) -> Built
         requires { ⌜ Fits self (now tree) ⌝ }
-        ensures { λ r. ⌜ Did (λ n. flat.leaf n place kind start size (rowsOf self (now (tree .entry)))) (now (tree .entry)) r (now (tree .exit)) ⌝ }
+        ensures { λ r. ⌜ Goes (λ n. flat.leaf n place kind start size) self tree r ⌝ }
     {
         let rows = self.rows;
         if tree.len() / Limits::TREE_WIDTH <= rows {
@@ -102,7 +102,7 @@ impl GreenNodeBuilder {
     // A node that begins here: what comes next is its first child.
     pub fn start_node(self, tree: &mut [u32], place: usize, kind: u32) -> Built
         requires { ⌜ Fits self (now tree) ⌝ }
-        ensures { λ r. ⌜ Did (λ n. flat.start n place kind (rowsOf self (now (tree .entry)))) (now (tree .entry)) r (now (tree .exit)) ⌝ }
+        ensures { λ r. ⌜ Goes (λ n. flat.start n place kind) self tree r ⌝ }
     {
         if Limits::NODES <= self.depth {
             return Built::Refused(Refusal::TOO_MANY_OPEN, place);
@@ -123,7 +123,7 @@ impl GreenNodeBuilder {
     // The innermost open node ends here and is one finished child of its parent, whose frame is handed back.
     pub fn finish_node(self, tree: &mut [u32], place: usize, kind: u32, parent: Frame) -> Built
         requires { ⌜ Fits self (now tree) × Within self ⌝ }
-        ensures { λ r. ⌜ Did (λ n. flat.finish n place kind (frameOf parent) (rowsOf self (now (tree .entry)))) (now (tree .entry)) r (now (tree .exit)) ⌝ }
+        ensures { λ r. ⌜ Goes (λ n. flat.finish n place kind (frameOf parent)) self tree r ⌝ }
     {
         let rows = self.rows;
         if tree.len() / Limits::TREE_WIDTH <= rows {
@@ -172,7 +172,7 @@ impl GreenNodeBuilder {
     //   a_b   the `_` wraps the text: Attach[Arg[Text a] ..
     pub fn wrap(self, tree: &mut [u32], place: usize, kind: u32, at: Checkpoint) -> Built
         requires { ⌜ Fits self (now tree) × Within self × Inside at self ⌝ }
-        ensures { λ r. ⌜ Did (λ n. flat.wrap n place kind (markOf at) (rowsOf self (now (tree .entry)))) (now (tree .entry)) r (now (tree .exit)) ⌝ }
+        ensures { λ r. ⌜ Goes (λ n. flat.wrap n place kind (markOf at)) self tree r ⌝ }
     {
         if at.children < self.first {
             return Built::Refused(Refusal::MARK_BEFORE_NODE, place);

@@ -2,16 +2,17 @@
 ghost use mathlib.Core.Path.{_≡_};
 ghost use Prim.Native.Nat.{_+_, _*_, _-_, _≤_};
 ghost use mathlib.Core.List.{[], _∷_, _++_};
-ghost use lib.ListN.{length, take, drop};
+ghost use lib.ListN.{length, take};
 ghost use Rattle.rules.specs.Limits.{treeWidth};
 ghost use Rattle.rules.specs.Flat.{startRow};
+ghost use Rattle.builder.specs.Contract.{written};
 use syntax::Limits;
 use syntax::Tag;
 
 // A row is written over what stands there.
 pub fn put(tree: &mut [u32], row: usize, tag: u32, kind: u32, start: u32, size: u32)
     requires { ⌜ row * treeWidth + treeWidth ≤ length (now tree) ⌝ }
-    ensures { λ _. ⌜ now (tree .exit) ≡ take (row * treeWidth) (now (tree .entry)) ++ ((tag ∷ kind ∷ start ∷ size ∷ []) ++ drop (row * treeWidth + treeWidth) (now (tree .entry))) ⌝ }
+    ensures { λ _. ⌜ now (tree .exit) ≡ written treeWidth row (tag ∷ kind ∷ start ∷ size ∷ []) (now (tree .entry)) ⌝ }
 {
     let at = row * Limits::TREE_WIDTH;
     tree[at] = tag;

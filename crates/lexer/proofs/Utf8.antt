@@ -53,22 +53,35 @@ module _ (k : ℕ) {bytes : List ℕ} (asked : Asked k bytes) {t : Bool} (e : t 
 pub not-found : {bytes : List ℕ} → Asked 9 bytes → 0 ≡ charLength bytes
 not-found asked = sym (asked .is)
 
--- ---- the next character: `size` is the length of the one at `at`, and from there on the bytes are as good as from their start
-module _ (bytes : List ℕ) (at size : ℕ) (e : size ≡ charLength (take (length bytes - at) (drop at bytes))) where
-  is-size : size ≡ charLength (drop at bytes)
-  is-size = rw to-the-end at e
+-- ---- the character at `at`, by its first byte
+module _ (bytes : List ℕ) (at : ℕ) (there : at < length bytes) where
+  first-byte : leb (getD bytes at 0) 0x7F ≡ begins ((0x00, 0x7F) ∷ []) (drop at bytes)
+  first-byte = byte-high bytes at 0x00 0x7F there (omega arith)
 
-  pub within-bytes : at ≤ length bytes → at + size ≤ length bytes
-  within-bytes h = omega (arith, is-size, char-fits (drop at bytes), length-drop at bytes)
+  pub single : getD bytes at 0 ≤ 0x7F → 1 ≡ charLength (drop at bytes)
+  single low = found 0 (none-asked (drop at bytes)) first-byte (le-leb (getD bytes at 0) 0x7F low) tt
 
-  pub one-more : isUtf8 bytes ≡ isUtf8 (drop at bytes) → (size ≡ 0 → ⊥) → isUtf8 bytes ≡ isUtf8 (drop (at + size) bytes)
-  one-more same some =
-      let size-is = is-size in
-      let rest = utf8-rest (drop at bytes) (omega arith) in
-      same ∙ rest ∙ ap isUtf8 (drop-drop (charLength (drop at bytes)) at bytes ∙ ap (λ (n : ℕ). drop (at + n) bytes) (sym is-size))
+  pub wide : 0x7F < getD bytes at 0 → begins ((0x00, 0x7F) ∷ []) (drop at bytes) ≡ false
+  wide high = sym first-byte ∙ lt-leb (getD bytes at 0) 0x7F high
 
-  pub no-more : isUtf8 bytes ≡ isUtf8 (drop at bytes) → at < length bytes → size ≡ 0 → false ≡ isUtf8 bytes
-  no-more same h zero = sym (same ∙ utf8-none (drop at bytes) (omega (arith, length-drop at bytes)) (sym is-size ∙ zero))
+-- ---- a turn over the characters: from `at` on the bytes are as good as from their start, and `size` is the length of the character there
+pub record Turn (bytes : List ℕ) (at size : ℕ) : Type 0 where
+  pub there : at < length bytes
+  pub same : isUtf8 bytes ≡ isUtf8 (drop at bytes)
+  pub is : size ≡ charLength (drop at bytes)
+
+module _ {bytes : List ℕ} {at size : ℕ} (turn : Turn bytes at size) where
+  pub within-bytes : at + size ≤ length bytes
+  within-bytes = omega (arith, char-fits (drop at bytes), length-drop at bytes)
+
+  pub one-more : (size ≡ 0 → ⊥) → isUtf8 bytes ≡ isUtf8 (drop (at + size) bytes)
+  one-more some =
+      let rest = utf8-rest (drop at bytes) (let size-is = turn .is in omega arith) in
+      let behind = drop-drop (charLength (drop at bytes)) at bytes in
+      turn .same ∙ rest ∙ ap isUtf8 (behind ∙ ap (λ (n : ℕ). drop (at + n) bytes) (sym (turn .is)))
+
+  pub no-more : size ≡ 0 → false ≡ isUtf8 bytes
+  no-more none = sym (turn .same ∙ utf8-none (drop at bytes) (omega (arith, length-drop at bytes)) (sym (turn .is) ∙ none))
 
 pub all-read : (bytes : List ℕ) (at : ℕ) → isUtf8 bytes ≡ isUtf8 (drop at bytes) → length bytes ≤ at → true ≡ isUtf8 bytes
 all-read bytes at same h = sym (same ∙ ap isUtf8 (drop-of-length-le bytes h) ∙ utf8-nothing)

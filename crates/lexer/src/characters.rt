@@ -2,9 +2,13 @@
 ghost use mathlib.Core.Path.{_≡_};
 ghost use mathlib.Core.Bool.{false};
 ghost use mathlib.Core.List.{[], _∷_};
-ghost use Prim.Native.Nat.{_≤_};
-ghost use lib.ListN.{length, drop};
+ghost use lib.ListN.{drop};
 ghost use Rattle.rules.specs.Characters.{tail, begins, charLength, isUtf8};
+
+// "UTF8-1 = %x00-7F"
+const SINGLE_LOW: u8 = 0x00;
+
+const SINGLE_HIGH: u8 = 0x7F;
 
 // "UTF8-tail = %x80-BF"
 const TAIL_LOW: u8 = 0x80;
@@ -95,19 +99,24 @@ fn wide_len(bytes: &[u8]) -> usize
 pub fn char_len(bytes: &[u8]) -> usize
     ensures { λ r. ⌜ r ≡ charLength (now (bytes .entry)) ⌝ }
 {
-    if byte_in(bytes, 0, 0x00, 0x7F) {
+    if byte_in(bytes, 0, SINGLE_LOW, SINGLE_HIGH) {
         return 1;
     }
     wide_len(bytes)
 }
 
-// Whether the bytes are characters one after the other. Each is looked for in a part that starts where the one before it ends.
+// Whether the bytes are characters one after the other. A character of a single byte is told by that byte, without a call; any other is looked for
+// in a part that starts where the one before it ends.
 pub fn is_utf8(bytes: &[u8]) -> bool
     ensures { λ r. ⌜ r ≡ isUtf8 (now (bytes .entry)) ⌝ }
 {
     let mut at = 0;
     while at < bytes.len() {
-        let size = char_len(&bytes[at..]);
+        let size = if bytes[at] <= SINGLE_HIGH {
+            1
+        } else {
+            wide_len(&bytes[at..])
+        };
         if size == 0 {
             return false;
         }

@@ -24,20 +24,25 @@ pub enum ParseScope {
 }
 
 impl ParseScope {
-    // For each scope a line and in it for each kind of token a digit, the last one for kind 0: 1 where that kind stops a list of that scope.
-    // `}` is kind 6, `]` 7, `)` 8, Dollar 22, EndEnvironment 28, EndMath 30, Right 39.
-    const STOPS: [u64; 8] = [
-        0b0000000000000000000000000000000000000000, // Root
-        0b1000000000010000010000000000000001000000, // DollarFormula
-        0b1000000001010000000000000000000001000000, // CmdFormula
-        0b0000000000010000000000000000000001000000, // Environment
-        0b1000000000010000000000000000000001000000, // LR
-        0b0000000000000000000000000000000001000000, // CurlyItem
-        0b1000000000010000000000000000000011000000, // BracketItem
-        0b1000000000010000000000000000000101000000, // ParenItem
-    ];
+    // The stop table, eight scopes by forty kinds. A line has its scope's number in its name and a digit for each kind of token, the last one for
+    // kind 0: 1 where that kind stops a list of that scope. `}` is kind 6, `]` 7, `)` 8, Dollar 22, EndEnvironment 28, EndMath 30, Right 39.
+    const STOPS_0: u64 = 0b0000000000000000000000000000000000000000; // Root
 
-    // The scope's line in the table.
+    const STOPS_1: u64 = 0b1000000000010000010000000000000001000000; // DollarFormula
+
+    const STOPS_2: u64 = 0b1000000001010000000000000000000001000000; // CmdFormula
+
+    const STOPS_3: u64 = 0b0000000000010000000000000000000001000000; // Environment
+
+    const STOPS_4: u64 = 0b1000000000010000000000000000000001000000; // LR
+
+    const STOPS_5: u64 = 0b0000000000000000000000000000000001000000; // CurlyItem
+
+    const STOPS_6: u64 = 0b1000000000010000000000000000000011000000; // BracketItem
+
+    const STOPS_7: u64 = 0b1000000000010000000000000000000101000000; // ParenItem
+
+    // The scope's number.
     pub fn number(self) -> usize
         ensures { λ r. ⌜ r ≡ numberOf self ⌝ }
     {
@@ -70,13 +75,23 @@ impl ParseScope {
     }
 
     // Whether a token of this kind stops a list of this scope. A number over 39 is no token's kind and stops none.
+    // A `match` gives the line, since the compiler lays an array out anew at each look.
     pub fn stop_by_scope(self, kind: u32) -> bool
         ensures { λ r. ⌜ r ≡ stops (scopeOf self) kind ⌝ }
     {
         let column = kind as usize;
         if column < Limits::KINDS {
-            let row = self.number();
-            (Self::STOPS[row] >> column) % 2 == 1
+            let line = match self {
+                Self::Root => Self::STOPS_0,
+                Self::DollarFormula => Self::STOPS_1,
+                Self::CmdFormula => Self::STOPS_2,
+                Self::Environment => Self::STOPS_3,
+                Self::LR => Self::STOPS_4,
+                Self::CurlyItem => Self::STOPS_5,
+                Self::BracketItem => Self::STOPS_6,
+                Self::ParenItem => Self::STOPS_7,
+            };
+            (line >> column) % 2 == 1
         } else {
             false
         }

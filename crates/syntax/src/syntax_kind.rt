@@ -153,28 +153,37 @@ impl SyntaxKind {
         Self::ALL
     }
 
-    // For each kind of token the kind of the leaf that it becomes, two digits each, eight kinds to a line from the right: the names above a line are its
-    // kinds in order.
-    const OF_TOKEN: [u64; 5] = [
-        // LINE_BREAK, WHITESPACE, LINE_COMMENT, LEFT_CURLY, LEFT_BRACKET, LEFT_PAREN, RIGHT_CURLY, RIGHT_BRACKET
-        0x07_05_08_06_04_03_02_01,
-        // RIGHT_PAREN, COMMA, TILDE, SLASH, AMPERSAND, CARET, APOSTROPHE, DITTO
-        0x18_17_16_11_0c_0b_0a_09,
-        // SEMICOLON, HASH, ASTERISK, AT_SIGN, UNDERSCORE, WORD, DOLLAR, NEW_LINE
-        0x1e_0e_0d_15_14_13_12_19,
-        // ERROR, MACRO_ARG, GENERIC, BEGIN_ENVIRONMENT, END_ENVIRONMENT, BEGIN_MATH, END_MATH, ERROR_BEGIN_ENVIRONMENT
-        0x00_10_0f_1a_1a_1b_0d_00,
-        // ERROR_END_ENVIRONMENT, IF_FALSE, IF_TYPST, IF, ELSE, END_IF, LEFT, RIGHT
-        0x1b_1b_1b_1b_1b_1b_1b_00,
-    ];
+    // The conversion's table: for each kind of token the kind of the leaf that it becomes, two digits to a kind, eight kinds to a line, the first
+    // at the right. A line has its first kind's number in its name, and above it its kinds in order:
+    // LINE_BREAK, WHITESPACE, LINE_COMMENT, LEFT_CURLY, LEFT_BRACKET, LEFT_PAREN, RIGHT_CURLY, RIGHT_BRACKET.
+    const LEAVES_FROM_0: u64 = 0x07_05_08_06_04_03_02_01;
+
+    // RIGHT_PAREN, COMMA, TILDE, SLASH, AMPERSAND, CARET, APOSTROPHE, DITTO.
+    const LEAVES_FROM_8: u64 = 0x18_17_16_11_0c_0b_0a_09;
+
+    // SEMICOLON, HASH, ASTERISK, AT_SIGN, UNDERSCORE, WORD, DOLLAR, NEW_LINE.
+    const LEAVES_FROM_16: u64 = 0x1e_0e_0d_15_14_13_12_19;
+
+    // ERROR, MACRO_ARG, GENERIC, BEGIN_ENVIRONMENT, END_ENVIRONMENT, BEGIN_MATH, END_MATH, ERROR_BEGIN_ENVIRONMENT.
+    const LEAVES_FROM_24: u64 = 0x00_10_0f_1a_1a_1b_0d_00;
+
+    // ERROR_END_ENVIRONMENT, IF_FALSE, IF_TYPST, IF, ELSE, END_IF, LEFT, RIGHT.
+    const LEAVES_FROM_32: u64 = 0x1b_1b_1b_1b_1b_1b_1b_00;
 
     // `From<Token>`: the kind of the leaf that a token becomes. A number over 39 is no token's kind and gives TOKEN_ERROR.
+    // A `match` gives the line, since the compiler lays an array out anew at each look.
     pub fn from_token(kind: u32) -> u32
         ensures { λ r. ⌜ r ≡ leafKind kind ⌝ }
     {
         let place = kind as usize;
         if place < Limits::KINDS {
-            let line = Self::OF_TOKEN[place / 8];
+            let line = match place / 8 {
+                0 => Self::LEAVES_FROM_0,
+                1 => Self::LEAVES_FROM_8,
+                2 => Self::LEAVES_FROM_16,
+                3 => Self::LEAVES_FROM_24,
+                _ => Self::LEAVES_FROM_32,
+            };
             ((line >> (place % 8 * 8)) % 256) as u32
         } else {
             Self::TOKEN_ERROR

@@ -12,13 +12,22 @@ returns : tie.Need-returns
 returns c = rw (eq-eqb _ _ (c .if1 .taken))
 
 add-at : tie.Need-add-at
-add-at c = let small = three (c .before .before .before .args .argument) in omega arith
+add-at c =
+    let some = c .before in
+    let small = three (some .before .before .args .argument) in
+    omega arith
 
 returns-2 : tie.Need-returns-2
-returns-2 c = rw (ne-eqb _ _ (c .before .before .before .if1 .left), ← c .before .before .column .ensures)
+returns-2 c =
+    let asked = c .before .before in
+    rw (ne-eqb _ _ (asked .before .if1 .left), ← asked .column .ensures)
 
 returns-3 : tie.Need-returns-3
-returns-3 c = rw (ne-eqb _ _ (c .before .before .if1 .left), ← c .before .column .ensures) (sym (List·getD-eq-default (c .before .before .before .before .args .states .now) 0 (c .if2 .left)))
+returns-3 c =
+    let asked = c .before in
+    let some = asked .before in
+    let states = some .before .before .args .states .now in
+    rw (ne-eqb _ _ (some .if1 .left), ← asked .column .ensures) (sym (List·getD-eq-default states 0 (c .if2 .left)))
 
 pub next-state-spec : {M : Type 1} → statement M
 next-state-spec =

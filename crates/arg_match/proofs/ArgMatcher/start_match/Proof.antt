@@ -1,7 +1,9 @@
 -- `start_match` meets its contract: at each form the rule computes, and another number is none of the five. Assumes nothing.
 use borrow.Author.Needs.{needs}
-use borrow.Author.Tests.{ne-eqb}
-use Rattle.rules.specs.Matcher.{startMatch}
+use mathlib.Core.List.{List, [], _∷_}
+use Prim.Native.Nat.{ℕ}
+use Rattle.rules.specs.Matcher.{startMatch, formFixed, formRange, formGreedy, formGlob, formInfixGreedy}
+use Rattle.syntax.proofs.Arms.{no-key}
 use Rattle.arg_match.proofs.ArgMatcher.start_match.Statement.{statement}
 use Rattle.arg_match.proofs.ArgMatcher.start_match.Tie as tie
 
@@ -25,11 +27,13 @@ returns-5 : tie.Need-returns-5
 unfolding startMatch
 returns-5 c = rw (c .match .keys5)
 
+-- the forms that have an arm
+abbrev forms : List (List ℕ)
+forms = (formFixed ∷ []) ∷ (formRange ∷ []) ∷ (formGreedy ∷ []) ∷ (formGlob ∷ []) ∷ (formInfixGreedy ∷ []) ∷ []
+
 returns-6 : tie.Need-returns-6
 unfolding startMatch
-returns-6 c =
-    let rest = c .match .rest in
-    rw (ne-eqb _ _ (rest .0 .0 .0 .0 .1), ne-eqb _ _ (rest .0 .0 .0 .1), ne-eqb _ _ (rest .0 .0 .1), ne-eqb _ _ (rest .0 .1), ne-eqb _ _ (rest .1))
+returns-6 c = simp (no-key (c .before .args .form) forms (c .match .rest))
 
 pub start-match-spec : {M : Type 1} → statement M
 start-match-spec =

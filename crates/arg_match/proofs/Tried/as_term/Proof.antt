@@ -4,10 +4,14 @@ use Rattle.arg_match.proofs.Tried.as_term.Statement.{statement}
 use Rattle.arg_match.proofs.Tried.as_term.Tie as tie
 
 returns-2 : tie.Need-returns-2
-returns-2 c = rw (c .before .before .before .self .given .1, ← c .before .is-term .ensures, c .if1 .taken)
+returns-2 c =
+    let asked = c .before in
+    rw (asked .before .before .self .given .1, ← asked .is-term .ensures, c .if1 .taken)
 
 returns-3 : tie.Need-returns-3
-returns-3 c = rw (c .before .before .before .self .given .1, ← c .before .is-term .ensures, c .if1 .left)
+returns-3 c =
+    let asked = c .before in
+    rw (asked .before .before .self .given .1, ← asked .is-term .ensures, c .if1 .left)
 
 pub as-term-spec : {M : Type 1} → statement M
 as-term-spec =

@@ -9,8 +9,12 @@ use Rattle.builder.proofs.GreenNodeBuilder.finish_node.Tie as tie
 returns : tie.Need-returns
 returns c = record { is = finish-full _ _ _ (c .if1 .taken) _ _; rest = refl }
 
+-- where the row was written
+abbrev stored : tie.After-struct-known2 → tie.After-put
+stored c = c .before .before .before .before
+
 returns-2 : tie.Need-returns-2
-returns-2 c = finished _ _ _ (c .before .before .before .before .before .before .if1 .left) _ _ _ (c .before .before .before .before .put .ensures)
+returns-2 c = finished _ _ _ (stored c .before .before .if1 .left) _ _ _ (stored c .put .ensures)
 
 pub finish-node-spec : {M : Type 1} → statement M
 finish-node-spec =

@@ -4,8 +4,18 @@ use Rattle.builder.proofs.Laws.{opened}
 use Rattle.builder.proofs.GreenNodeBuilder.open_at.Statement.{statement}
 use Rattle.builder.proofs.GreenNodeBuilder.open_at.Tie as tie
 
+-- where the part came back, and where its start was found
+abbrev inserted : tie.After-struct-known3 → tie.After-insert-start
+inserted c = c .before .before .before .before
+
+abbrev placed : tie.After-insert-start → tie.After-start-row
+placed c = c .before .before .before
+
 returns : tie.Need-returns
-returns c = opened _ _ _ _ _ _ (c .before .before .before .before .before .before .before .start-row .ensures) (c .before .before .before .before .before .before .before .before .before .pre .2) (c .before .before .before .before .insert-start .ensures)
+returns c =
+    let put-in = inserted c in
+    let found = placed put-in in
+    opened _ _ _ _ _ _ (found .start-row .ensures) (found .before .before .pre .2) (put-in .insert-start .ensures)
 
 pub open-at-spec : {M : Type 1} → statement M
 open-at-spec =

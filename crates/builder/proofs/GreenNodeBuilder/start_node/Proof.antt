@@ -12,8 +12,14 @@ returns c = record { is = start-deep _ _ _ _ (c .if1 .taken); rest = refl }
 returns-2 : tie.Need-returns-2
 returns-2 c = record { is = start-full _ _ _ (c .if2 .taken) _ (c .before .if1 .left); rest = refl }
 
+-- where the row was written
+abbrev stored : tie.After-struct-known2 → tie.After-put
+stored c = c .before .before .before
+
 returns-3 : tie.Need-returns-3
-returns-3 c = started _ _ _ (c .before .before .before .before .before .if2 .left) _ _ (c .before .before .before .before .before .before .if1 .left) (c .before .before .before .put .ensures)
+returns-3 c =
+    let asked = stored c .before .before in
+    started _ _ _ (asked .if2 .left) _ _ (asked .before .if1 .left) (stored c .put .ensures)
 
 pub start-node-spec : {M : Type 1} → statement M
 start-node-spec =

@@ -4,11 +4,17 @@ use Rattle.builder.proofs.Laws.{at-first, at-mark}
 use Rattle.builder.proofs.GreenNodeBuilder.start_row.Statement.{statement}
 use Rattle.builder.proofs.GreenNodeBuilder.start_row.Tie as tie
 
+abbrev entry : tie.After-struct-known2 → tie.Start
+entry c = c .before .before
+
 returns : tie.Need-returns
-returns c = at-first _ _ _ (c .before .if1 .taken) (c .before .before .before .before .pre .0 .first) (c .before .before .before .before .pre .0 .node)
+returns c =
+    let same = c .before in
+    let within = entry (same .before) .pre .0 in
+    at-first _ _ _ (same .if1 .taken) (within .first) (within .node)
 
 returns-2 : tie.Need-returns-2
-returns-2 c = at-mark _ _ _ (c .if1 .left) (c .before .before .before .pre .1 .children) (c .before .before .before .pre .1 .row)
+returns-2 c = let mark = entry (c .before) .pre .1 in at-mark _ _ _ (c .if1 .left) (mark .children) (mark .row)
 
 pub start-row-spec : {M : Type 1} → statement M
 start-row-spec = tie.close (tie.spec (λ c. search needs) returns returns-2)

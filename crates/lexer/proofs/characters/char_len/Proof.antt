@@ -6,7 +6,9 @@ use Rattle.lexer.proofs.characters.char_len.Statement.{statement}
 use Rattle.lexer.proofs.characters.char_len.Tie as tie
 
 returns : tie.Need-returns
-returns c = found 0 (none-asked (c .before .before .before .args .bytes .now)) (c .before .byte-in .ensures) (c .if1 .taken) tt
+returns c =
+    let asked = c .before in
+    found 0 (none-asked (asked .before .before .args .bytes .now)) (asked .byte-in .ensures) (c .if1 .taken) tt
 
 wide-len-requires : tie.Need-wide-len-requires
 wide-len-requires c κs = sym (c .before .byte-in .ensures) ∙ c .if1 .left

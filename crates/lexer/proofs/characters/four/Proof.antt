@@ -8,13 +8,16 @@ use Rattle.lexer.proofs.characters.four.Tie as tie
 
 returns : tie.Need-returns
 returns c =
-    let x = c .before .before .before .before .args in
-    goes-on ((x .low, x .high) ∷ (x .from, x .to) ∷ tail ∷ []) (tail ∷ []) (x .bytes .now) (c .before .before .three .ensures) (c .before .if1 .taken) (c .byte-in .ensures)
+    let first = c .before .before in
+    let x = first .before .before .args in
+    goes-on ((x .low, x .high) ∷ (x .from, x .to) ∷ tail ∷ []) (tail ∷ []) (x .bytes .now) (first .three .ensures) (c .before .if1 .taken)
+    (c .byte-in .ensures)
 
 returns-2 : tie.Need-returns-2
 returns-2 c =
-    let x = c .before .before .before .args in
-    ends-here ((x .low, x .high) ∷ (x .from, x .to) ∷ tail ∷ []) (tail ∷ []) (x .bytes .now) (c .before .three .ensures) (c .if1 .left)
+    let first = c .before in
+    let x = first .before .before .args in
+    ends-here ((x .low, x .high) ∷ (x .from, x .to) ∷ tail ∷ []) (tail ∷ []) (x .bytes .now) (first .three .ensures) (c .if1 .left)
 
 pub four-spec : {M : Type 1} → statement M
 four-spec = tie.close (tie.spec (λ c κs. search needs) (λ c κs. search needs) returns returns-2)

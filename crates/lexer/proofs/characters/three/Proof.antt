@@ -8,13 +8,16 @@ use Rattle.lexer.proofs.characters.three.Tie as tie
 
 returns : tie.Need-returns
 returns c =
-    let x = c .before .before .before .before .args in
-    goes-on ((x .low, x .high) ∷ (x .from, x .to) ∷ []) (tail ∷ []) (x .bytes .now) (c .before .before .two .ensures) (c .before .if1 .taken) (c .byte-in .ensures)
+    let first = c .before .before in
+    let x = first .before .before .args in
+    goes-on ((x .low, x .high) ∷ (x .from, x .to) ∷ []) (tail ∷ []) (x .bytes .now) (first .two .ensures) (c .before .if1 .taken)
+    (c .byte-in .ensures)
 
 returns-2 : tie.Need-returns-2
 returns-2 c =
-    let x = c .before .before .before .args in
-    ends-here ((x .low, x .high) ∷ (x .from, x .to) ∷ []) (tail ∷ []) (x .bytes .now) (c .before .two .ensures) (c .if1 .left)
+    let first = c .before in
+    let x = first .before .before .args in
+    ends-here ((x .low, x .high) ∷ (x .from, x .to) ∷ []) (tail ∷ []) (x .bytes .now) (first .two .ensures) (c .if1 .left)
 
 pub three-spec : {M : Type 1} → statement M
 three-spec = tie.close (tie.spec (λ c κs. search needs) (λ c κs. search needs) returns returns-2)

@@ -9,13 +9,15 @@ use Rattle.lexer.proofs.cursor.Lexer.consume_utf8_bytes.Tie as tie
 
 returns : tie.Need-returns
 returns c =
-    let x = c .before .before .before .before .args in
-    c .eat .ensures ∙ sym (consumed-all (x .tokens .now) (x .count) (cursorOf (x .self)) (omega (arith, c .before .before .rest-length .ensures)))
+    let measured = c .before .before in
+    let x = measured .before .before .args in
+    c .eat .ensures ∙ sym (consumed-all (x .tokens .now) (x .count) (cursorOf (x .self)) (omega (arith, measured .rest-length .ensures)))
 
 returns-2 : tie.Need-returns-2
 returns-2 c =
-    let x = c .before .before .before .before .args in
-    sym (consumed-part (x .tokens .now) (x .count) (cursorOf (x .self)) (omega (arith, c .before .before .rest-length .ensures)))
+    let measured = c .before .before in
+    let x = measured .before .before .args in
+    sym (consumed-part (x .tokens .now) (x .count) (cursorOf (x .self)) (omega (arith, measured .rest-length .ensures)))
 
 pub consume-utf8-bytes-spec : {M : Type 1} → statement M
 consume-utf8-bytes-spec =

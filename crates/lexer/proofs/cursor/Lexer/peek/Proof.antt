@@ -8,10 +8,13 @@ use Rattle.lexer.proofs.cursor.Lexer.peek.Statement.{statement}
 use Rattle.lexer.proofs.cursor.Lexer.peek.Tie as tie
 
 returns : tie.Need-returns
-returns c = peek-some (c .before .before .before .args .tokens .now) (cursorOf (c .before .before .before .args .self)) (c .before .if1 .taken) ∙ ap some (sym (c .cell .ensures))
+returns c =
+    let branch = c .before in
+    let x = branch .before .before .args in
+    peek-some (x .tokens .now) (cursorOf (x .self)) (branch .if1 .taken) ∙ ap some (sym (c .cell .ensures))
 
 returns-2 : tie.Need-returns-2
-returns-2 c = peek-none (c .before .before .args .tokens .now) (cursorOf (c .before .before .args .self)) (c .if1 .left)
+returns-2 c = let x = c .before .before .args in peek-none (x .tokens .now) (cursorOf (x .self)) (c .if1 .left)
 
 pub peek-spec : {M : Type 1} → statement M
 peek-spec = tie.close (tie.spec (λ c κs. search needs) returns returns-2)

@@ -9,21 +9,29 @@ use Rattle.lexer.proofs.cursor.Lexer.peek_text.Statement.{statement}
 use Rattle.lexer.proofs.cursor.Lexer.peek_text.Tie as tie
 
 rest-start-requires : tie.Need-rest-start-requires
-rest-start-requires c κs = here (c .before .before .pre .1) (c .before .before .pre .0)
+rest-start-requires c κs = let pre = c .before .before .pre in here (pre .1) (pre .0)
+
+-- the entry, from behind the first call
+abbrev entry : tie.After-rest-start → tie.Start
+entry c = c .before .before .before
 
 rest-length-requires : tie.Need-rest-length-requires
-rest-length-requires c κs = here (c .before .before .before .pre .1) (c .before .before .before .pre .0)
+rest-length-requires c κs = let pre = entry c .pre in here (pre .1) (pre .0)
 
 part-result-end : tie.Need-part-result-end
-part-result-end c = omega (arith, rest-inside (c .before .before .before .before .pre .1) (c .before .before .before .before .pre .0), c .before .rest-start .ensures, c .rest-length .ensures)
+part-result-end c =
+    let pre = entry (c .before) .pre in
+    omega (arith, rest-inside (pre .1) (pre .0), c .before .rest-start .ensures, c .rest-length .ensures)
 
 returns : tie.Need-returns
 unfolding peekText
 returns c =
-    let start = c .before .before .rest-start .result in
-    let size = c .before .rest-length .result in
+    let measured = c .before in
+    let started = measured .before in
+    let start = started .rest-start .result in
+    let size = measured .rest-length .result in
     let whole : start + size - start ≡ size = omega arith in
-    rw (whole, c .before .before .rest-start .ensures, c .before .rest-length .ensures)
+    rw (whole, started .rest-start .ensures, measured .rest-length .ensures)
 
 pub peek-text-spec : {M : Type 1} → statement M
 peek-text-spec =

@@ -1,62 +1,63 @@
--- `stop_by_scope` meets its contract: the 320 digits are the rule, laid out as a table and compared by computing. Assumes nothing.
-use Prim.Native.Nat.{ℕ, _+_, _*_, _/_, _%_, _^_, _<_}
+-- `stop_by_scope` meets its contract: the match gives the scope's line, and antt computes that all 320 digits of the code's eight lines are the
+-- rule's. Assumes nothing.
+use Prim.Native.Nat.{ℕ, _/_, _%_, _^_}
 use borrow.Author.Needs.{needs}
 use lib.Dec.{eqb}
-use lib.ListN.{getD}
 use mathlib.Core.Bool.{Bool, false}
-use mathlib.Core.List.{List, [], _∷_, map}
-use mathlib.Core.Path.{_≡_, refl, sym, _∙_, ap}
+use mathlib.Core.Path.{refl, sym, _∙_, ap}
 use native.Mathlib.Omega.{arith}
-use Rattle.rules.proofs.Table.{grid, at-cell}
 use Rattle.rules.specs.Limits
-use Rattle.rules.specs.Scope.{stops, stopKinds}
-use Rattle.syntax.specs.ParseScope.{scopeAt}
+use Rattle.rules.specs.Scope.{stops}
+use Rattle.syntax.specs.ParseScope.{numberOf, scopeAt}
+use Rattle.syntax.proofs.Lines.{arm, last-arm, by-test}
 use Rattle.syntax.proofs.Scopes.{no-stop, numbered}
 use Rattle.syntax.proofs.parse_scope.ParseScope.stop_by_scope.Statement.{statement}
 use Rattle.syntax.proofs.parse_scope.ParseScope.stop_by_scope.Tie as tie
 
--- the table as the rule lays it out: a digit for each kind that stops
-abbrev line : List ℕ → ℕ
-line [] = 0
-line (kind ∷ kinds) = 2 ^ kind + line kinds
-
-abbrev lines : List ℕ
-lines = map (λ (row : ℕ). line (stopKinds (scopeAt row))) (0 ∷ 1 ∷ 2 ∷ 3 ∷ 4 ∷ 5 ∷ 6 ∷ 7 ∷ [])
-
--- the digit that stands there
+-- a digit of a line, from the right
 abbrev digit : ℕ → ℕ → Bool
-digit row kind = eqb (getD lines row 0 / 2 ^ kind % 2) 1
+digit line kind = eqb (line / 2 ^ kind % 2) 1
 
+-- what it should be
 rule : ℕ → ℕ → Bool
 rule row kind = stops (scopeAt row) kind
 
--- all 320 digits are the rule's: antt computes them
-same : grid 320 Limits.kinds digit ≡ grid 320 Limits.kinds rule
-unfolding rule stops
-same = refl
-
-at-digit : (row kind : ℕ) → row < 8 → kind < Limits.kinds → digit row kind ≡ rule row kind
-at-digit row kind few small =
-    sym (at-cell 320 Limits.kinds digit false row kind small (omega arith))
-    ∙ ap (λ (l : List Bool). getD l (row * Limits.kinds + kind) false) same
-    ∙ at-cell 320 Limits.kinds rule false row kind small (omega arith)
-
-mul-result : tie.Need-mul-result
-mul-result c = let scope = numbered (c .before .before .args .self) in omega arith
-
-array-read-result : tie.Need-array-read-result
-array-read-result c = rw (c .number .ensures) (numbered (c .before .before .args .self) .0)
-
--- the code's table is the one that the rule lays out
+-- `came` tells by which arm the match came, for which scope, and which constant it gave: so the lines of `line` are the code's own, and `refl` is
+-- the test over all of them
 returns : tie.Need-returns
-unfolding rule
+unfolding rule stops
 returns c =
-    let scope = numbered (c .before .before .args .self) in
-    at-digit (c .number .result) (c .before .before .args .kind) (rw (c .number .ensures) (scope .0)) (c .before .if1 .taken)
-    ∙ rw (c .number .ensures, scope .1)
+    let matched = c .before in
+    let small = matched .before in
+    let scope = small .before .args .self in
+    let line =
+    arm (λ w. (ap numberOf (w .1 .given .1), w .2))
+    (arm (λ w. (ap numberOf (w .1 .given .1), w .2))
+    (arm (λ w. (ap numberOf (w .1 .given .1), w .2))
+    (arm (λ w. (ap numberOf (w .1 .given .1), w .2))
+    (arm (λ w. (ap numberOf (w .1 .given .1), w .2))
+    (arm (λ w. (ap numberOf (w .1 .given .1), w .2))
+    (arm (λ w. (ap numberOf (w .1 .given .1), w .2))
+    (last-arm (λ w. (ap numberOf (w .1 .given .1), w .2)))))))))
+    (matched .match .came) in
+    let known = numbered scope in
+    by-test 320 Limits.kinds digit rule false (small .before .args .kind) line (small .if1 .taken) (omega arith) refl ∙ rw (known .1)
 
 returns-2 : tie.Need-returns-2
 returns-2 c = sym (no-stop _ _ (c .if1 .left))
 
 pub stop-by-scope-spec : {M : Type 1} → statement M
-stop-by-scope-spec = tie.close (tie.spec (λ c κs. search needs) mul-result array-read-result (λ c. search needs) returns returns-2)
+stop-by-scope-spec =
+    tie.close
+    (tie.spec
+    (λ c. search needs)
+    (λ c. search needs)
+    (λ c. search needs)
+    (λ c. search needs)
+    (λ c. search needs)
+    (λ c. search needs)
+    (λ c. search needs)
+    (λ c. search needs)
+    (λ c. search needs)
+    returns
+    returns-2)

@@ -1,47 +1,44 @@
--- `from_token` meets its contract: the code's lines are those that the rule lays out, and antt computes that all forty kinds stand in them. Assumes nothing.
-use Prim.Native.Nat.{ℕ, zero, suc, _+_, _*_, _/_, _%_, _^_, _<_}
+-- `from_token` meets its contract: the match gives the kind's line, and antt computes that all forty kinds of the code's five lines are the rule's.
+-- Assumes nothing.
+use Prim.Native.Nat.{ℕ, _+_, _*_, _/_, _%_, _^_}
 use borrow.Author.Needs.{needs}
 use borrow.Author.Tests.{le-ltb}
-use lib.ListN.{getD}
-use mathlib.Core.List.{List}
-use mathlib.Core.Path.{_≡_, refl, sym, _∙_, ap}
-use Rattle.rules.proofs.Table.{table, at}
+use mathlib.Core.Path.{refl, _∙_, ap}
+use native.Mathlib.Nat.{div-add-mod'}
+use native.Mathlib.Omega.{arith}
 use Rattle.rules.specs.Kinds.{leafKind}
 use Rattle.rules.specs.Limits
+use Rattle.syntax.proofs.Lines.{arm, last-arm, by-test}
 use Rattle.syntax.proofs.syntax_kind.SyntaxKind.from_token.Statement.{statement}
 use Rattle.syntax.proofs.syntax_kind.SyntaxKind.from_token.Tie as tie
 
--- so many kinds from one on, two digits each, the first at the right
-abbrev line : ℕ → ℕ → ℕ
-line zero kind = 0
-line (suc n) kind = leafKind kind + 256 * line n (kind + 1)
+-- two digits of a line, from the right
+abbrev digits : ℕ → ℕ → ℕ
+digits line column = line / 2 ^ (column * 8) % 256
 
--- the table as the rule lays it out
-lines : List ℕ
-lines = table 5 (λ row. line 8 (row * 8))
+-- what they should be: eight kinds to a line
+abbrev rule : ℕ → ℕ → ℕ
+rule row column = leafKind (row * 8 + column)
 
--- the two digits that stand there
-abbrev digits : ℕ → ℕ
-digits kind = getD lines (kind / 8) 0 / 2 ^ (kind % 8 * 8) % 256
-
--- all forty are the rule's: antt computes them
-same : table Limits.kinds digits ≡ table Limits.kinds leafKind
-unfolding lines leafKind
-same = refl
-
-at-kind : (kind : ℕ) → kind < Limits.kinds → digits kind ≡ leafKind kind
-at-kind kind small =
-    sym (at Limits.kinds digits 0 kind small) ∙ ap (λ (l : List ℕ). getD l kind 0) same ∙ at Limits.kinds leafKind 0 kind small
-
--- the code's table is the one that the rule lays out
+-- `came` tells by which arm the match came and which constant it gave: so the lines of `line` are the code's own, and `refl` is the test over all
+-- of them
 returns : tie.Need-returns
-unfolding lines leafKind
-returns c = at-kind (c .before .args .kind) (c .if1 .taken)
+unfolding leafKind
+returns c =
+    let matched = c .before in
+    let kind = matched .before .before .args .kind in
+    let line =
+    arm (λ w. (w .0 .keys1, w .1))
+    (arm (λ w. (w .0 .keys2, w .1))
+    (arm (λ w. (w .0 .keys3, w .1))
+    (arm (λ w. (w .0 .keys4, w .1))
+    (last-arm (λ w. (omega arith, w .1))))))
+    (matched .match .came) in
+    by-test Limits.kinds 8 digits rule 0 (kind % 8) line (omega arith) (omega arith) refl ∙ ap leafKind (div-add-mod' kind 8)
 
 returns-2 : tie.Need-returns-2
 unfolding leafKind
 returns-2 c = rw (le-ltb _ _ (c .if1 .left))
 
 pub from-token-spec : {M : Type 1} → statement M
-from-token-spec =
-    tie.close (tie.spec (λ c. search needs) (λ c. search needs) (λ c. search needs) (λ c. search needs) (λ c. search needs) returns returns-2)
+from-token-spec = tie.close (tie.spec (λ c. search needs) (λ c. search needs) (λ c. search needs) returns returns-2)

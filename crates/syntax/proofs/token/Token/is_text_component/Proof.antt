@@ -17,7 +17,9 @@ parts kind = simp (or-false, ← or-assoc)
 
 -- what the first two questions came to
 two : (c : tie.Joined1) → c .if1 .if2 ≡ (isTrivia (c .before .before .args .kind) || eqb (c .before .before .args .kind) Token.Word)
-two c = ⊎-elim (λ w. w .1 ∙ rw (← c .before .is-trivia .ensures, w .0 .taken)) (λ w. w .1 ∙ rw (← c .before .is-trivia .ensures, w .0 .left)) (c .if1 .came)
+two c =
+    let asked = c .before .is-trivia .ensures in
+    ⊎-elim (λ w. w .1 ∙ rw (← asked, w .0 .taken)) (λ w. w .1 ∙ rw (← asked, w .0 .left)) (c .if1 .came)
 
 returns : tie.Need-returns
 returns c = rw (parts _, ← two (c .before), c .if2 .taken)
