@@ -1,21 +1,28 @@
 -- `is_leaf` meets its contract: its tests are the rule's, and a row that has a tag is there. Assumes nothing.
-use mathlib.Core.Path.{sym, _∙_}
+use Prim.Native.Nat.{ℕ, _+_, _<_}
+use mathlib.Core.Bool.{Bool, true}
+use mathlib.Core.List.{List}
+use mathlib.Core.Path.{_≡_}
 use borrow.Author.Needs.{needs}
-use Rattle.rules.specs.Questions.{isLeaf}
+use lib.Dec.{leb}
+use lib.ListN.{length}
+use Rattle.rules.specs.Flat.{tagLeaf}
+use Rattle.rules.specs.Questions.{rowCount, rangeAt, tagged, isLeaf}
 use Rattle.rules.proofs.Questions.{tagged-there}
+use Rattle.questions.specs.Stands.{rangeOf}
+use Rattle.questions.specs.declared.leaf.LeafRange.{LeafRange}
+use Rattle.questions.proofs.Tests.{told, first-no}
 use Rattle.questions.proofs.leaf.is_leaf.Statement.{statement}
 use Rattle.questions.proofs.leaf.is_leaf.Tie as tie
 
-range-at-requires : tie.Need-range-at-requires
-range-at-requires c κs = tagged-there _ _ _ (sym (c .before .tagged .ensures) ∙ c .if1 .taken)
+module _ (tree : List ℕ) (row : ℕ) {leaf : Bool} (is : leaf ≡ tagged tagLeaf tree row) (known : leaf ≡ true) where
+  there : row < rowCount tree
+  there = tagged-there tagLeaf tree row (told is known)
 
-returns : tie.Need-returns
-unfolding isLeaf
-returns c = rw (sym (c .before .before .tagged .ensures) ∙ c .before .if1 .taken, ← c .range-at .ensures .0)
-
-returns-2 : tie.Need-returns-2
-unfolding isLeaf
-returns-2 c = rw (sym (c .before .tagged .ensures) ∙ c .if1 .left)
+  inside : (text : List ℕ) {r : LeafRange} → rangeOf r ≡ rangeAt tree row → leb (r .start + r .size) (length text) ≡ isLeaf text tree row
+  unfolding isLeaf
+  inside text here = rw (told is known, ← here)
 
 pub is-leaf-spec : {M : Type 1} → statement M
-is-leaf-spec = tie.close (tie.spec (λ c κs. search needs) range-at-requires (λ c. search needs) returns returns-2)
+unfolding isLeaf
+is-leaf-spec = tie.close (tie.spec (search needs) (λ c κs. search there) (search needs) (λ c. search inside) (λ c. search first-no))
