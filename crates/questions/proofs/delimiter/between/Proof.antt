@@ -7,4 +7,4 @@ use Rattle.questions.proofs.delimiter.between.Tie as tie
 
 pub between-spec : {M : Type 1} → statement M
 unfolding between
-between-spec = tie.close (tie.spec (search needs) (search needs) (λ c. search and-rest) (λ c. search first-no))
+between-spec = tie.close (tie.spec (λ c. search needs) (λ c. search needs) (λ c. search and-rest) (λ c. search first-no))

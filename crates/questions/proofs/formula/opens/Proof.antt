@@ -19,4 +19,4 @@ ruleset delimiters = (of-token, first-yes, or-rest)
 
 pub opens-spec : {M : Type 1} → statement M
 unfolding oneOf
-opens-spec = tie.close (tie.spec (search needs) (search needs) (λ c. search delimiters) (search needs) (λ c. search delimiters))
+opens-spec = tie.close (tie.spec (λ c. search needs) (λ c. search needs) (λ c. search delimiters) (λ c. search needs) (λ c. search delimiters))

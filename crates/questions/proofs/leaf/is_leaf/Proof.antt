@@ -25,4 +25,4 @@ module _ (tree : List ℕ) (row : ℕ) {leaf : Bool} (is : leaf ≡ tagged tagLe
 
 pub is-leaf-spec : {M : Type 1} → statement M
 unfolding isLeaf
-is-leaf-spec = tie.close (tie.spec (search needs) (λ c κs. search there) (search needs) (λ c. search inside) (λ c. search first-no))
+is-leaf-spec = tie.close (tie.spec (λ c. search needs) (λ c κs. search there) (λ c. search needs) (λ c. search inside) (λ c. search first-no))

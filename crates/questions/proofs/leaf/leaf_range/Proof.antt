@@ -23,4 +23,4 @@ module _ (text tree : List ℕ) (row : ℕ) {leaf : Bool} (is : leaf ≡ isLeaf 
   no-leaf known = rw (told is known)
 
 pub leaf-range-spec : {M : Type 1} → statement M
-leaf-range-spec = tie.close (tie.spec (search needs) (λ c κs. search there) (λ c. search a-leaf) (λ c. search no-leaf))
+leaf-range-spec = tie.close (tie.spec (λ c. search needs) (λ c κs. search there) (λ c. search a-leaf) (λ c. search no-leaf))

@@ -27,4 +27,4 @@ returns c =
     record { is = rw (whole, ← is); place = rw (← is) }
 
 pub leaf-text-spec : {M : Type 1} → statement M
-leaf-text-spec = tie.close (tie.spec (search needs) add-to (search needs) (search needs) (λ c. search inside) returns)
+leaf-text-spec = tie.close (tie.spec (λ c. search needs) add-to (λ c. search needs) (λ c. search needs) (λ c. search inside) returns)

@@ -41,10 +41,10 @@ first-from-spec =
     Inv-loop
     μ-loop
     (λ c. (search needs, refl))
-    (search needs)
+    (λ c. search needs)
     (λ c. search a-leaf)
     returns-2
-    (search needs)
-    (search needs)
+    (λ c. search needs)
+    (λ c. search needs)
     (λ c. (search needs, search a-node))
     (λ c. search no-more))

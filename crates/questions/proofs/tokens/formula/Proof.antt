@@ -35,7 +35,7 @@ pub formula-spec : {M : Type 1} → statement M
 formula-spec =
     tie.close
     (tie.spec
-    (search needs)
+    (λ c. search needs)
     (λ c κs. search (there, needs))
     (λ c κs. search there)
     (λ c. search this-kind)

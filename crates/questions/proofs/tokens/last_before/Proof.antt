@@ -38,10 +38,10 @@ last-before-spec =
     Inv-loop
     μ-loop
     (λ c. (search needs, refl))
-    (search needs)
-    (search needs)
+    (λ c. search needs)
+    (λ c. search needs)
     (λ c. search a-leaf)
     (λ c. search an-empty-node)
-    (search needs)
+    (λ c. search needs)
     (λ c. (search needs, search a-node))
     (λ c. search no-more))

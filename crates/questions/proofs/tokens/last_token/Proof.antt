@@ -24,4 +24,4 @@ module _ (tree : List ℕ) (row : ℕ) {found : Found} (is : foundOf found ≡ f
 pub last-token-spec : {M : Type 1} → statement M
 last-token-spec =
     tie.close
-    (tie.spec (search needs) (search needs) (search needs) (λ c. search no-formula) (λ c κs. search within) (λ c. search in-formula))
+    (tie.spec (λ c. search needs) (λ c. search needs) (λ c. search needs) (λ c. search no-formula) (λ c κs. search within) (λ c. search in-formula))

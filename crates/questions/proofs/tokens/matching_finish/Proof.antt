@@ -61,13 +61,13 @@ matching-finish-spec =
     (tie.spec
     Inv-loop
     μ-loop
-    (search needs)
+    (λ c. search needs)
     (λ c. (search needs, search needs, search needs, search needs, refl))
-    (search needs)
+    (λ c. search needs)
     returns
-    (search needs)
+    (λ c. search needs)
     (λ c. search shut)
-    (search needs)
-    (search needs)
+    (λ c. search needs)
+    (λ c. search needs)
     (λ c. (search needs, search needs, omega arith, search one-more, search goes-on))
     (λ c. search no-more))

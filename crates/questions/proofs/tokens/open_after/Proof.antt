@@ -18,4 +18,4 @@ unfolding openAfter
 returns-3 c = rw (ne-eqb _ _ (c .before .if1 .left), ne-eqb _ _ (c .if2 .left))
 
 pub open-after-spec : {M : Type 1} → statement M
-open-after-spec = tie.close (tie.spec (search needs) returns (search needs) returns-2 returns-3)
+open-after-spec = tie.close (tie.spec (λ c. search needs) returns (λ c. search needs) returns-2 returns-3)
