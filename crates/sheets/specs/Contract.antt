@@ -1,5 +1,5 @@
 -- What the contracts say of lent buffers.
-use Prim.Native.Nat.{ℕ, _+_, _-_, _/_, _^_, _<_, min}
+use Prim.Native.Nat.{ℕ, _+_, _-_, _/_, _^_, _≤_, _<_, min}
 use mathlib.Core.Bool.{cond}
 use mathlib.Core.List.{List, _++_}
 use mathlib.Core.Option.{Option, none, some}
@@ -39,6 +39,12 @@ pub record Counted (bytes : List ℕ) (s : Sections) : Type 0 where
   pub tokens-low : s .tokens < 2 ^ 30
   pub shapes-low : s .shapes < 2 ^ 30
   pub states-low : s .states < 2 ^ 30
+
+-- so many numbers have room for all that the sections claim
+pub record Room (bytes : List ℕ) (p : Places) (s : Sections) (numbers : List ℕ) : Type 0 where
+  pub placed : Placed bytes p
+  pub counted : Counted bytes s
+  pub fits : s .tokens + s .shapes + s .states ≤ length numbers
 
 -- the numbers of all tables, one behind the other, and how many each section has
 abbrev pub numbersOf : Tables → List ℕ
