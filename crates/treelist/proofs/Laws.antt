@@ -1,7 +1,8 @@
 -- A sheet's tables as the parts that the program cuts out, and what the answer of `list` is where the lines have room. Assumes nothing.
 use Prim.Native.Nat.{ℕ, _+_, _-_, _≤_}
 use mathlib.Core.List.{List}
-use mathlib.Core.Path.{_≡_}
+use mathlib.Core.Bool.{true, false}
+use mathlib.Core.Path.{_≡_, ap}
 use native.Mathlib.Omega.{arith}
 use borrow.Author.Tests.{le-leb}
 use lib.ListN.{length}
@@ -9,6 +10,7 @@ use Rattle.rules.specs.Checks.{Tables}
 use Rattle.rules.specs.Sheet.{bytesFrom, textAt}
 use Rattle.rules.specs.Tables.{part}
 use Rattle.sheets.specs.Contract.{Lists}
+use Rattle.sheets.specs.Stands.{Written, writtenOf}
 use Rattle.sheets.specs.declared.listing.Listed.{Listed}
 use Rattle.sheets.specs.declared.listing.Listed.the-variants.{Bytes, NoRoom}
 use Rattle.sheets.specs.declared.sections.Sections.{Sections}
@@ -32,14 +34,16 @@ tables-are {sheet} {numbers} {t} {s} k =
     rw (text, tokens, shapes, states, none, k .text, k .tokens, k .shapes, k .states)
 
 module _ {lines out v : List ℕ} {r : Listed} (room : length lines ≤ length out) (k : Lists lines out r v) where
-  is : r ≡ Bytes (length lines)
-  is = rw (le-leb _ _ room) at (k .answer)
+  says : writtenOf r ≡ record { whole = true; bytes = length lines }
+  says = rw (le-leb _ _ room) at (k .says)
 
   pub printed : {n : ℕ} → r ≡ Bytes n → Prints lines out n v
-  printed {n} e =
-      let same = is in
-      let count : n ≡ length lines = cc in
+  printed {n} is =
+      let count : n ≡ length lines = ap (λ (w : Written). w .bytes) (rw is at says) in
       record { count = count; fits = omega arith; written = rw (le-leb _ _ room) at (k .written) }
 
   pub never : {n : ℕ} → r ≡ NoRoom n → ⊥
-  never e = let same = is in let z : _≡_ {A = ℕ} 0 1 = cc in omega arith
+  never is =
+      let not-whole : false ≡ true = ap (λ (w : Written). w .whole) (rw is at says) in
+      let z : _≡_ {A = ℕ} 0 1 = cc in
+      omega arith

@@ -39,13 +39,11 @@ pub is-delimiter-spec : {M : Type 1} → statement M
 is-delimiter-spec =
     tie.close
     (tie.spec
-    (λ c. search needs)
-    (λ c. search needs)
+    (λ c. search needs) (λ c. search needs)
     (λ c. search no-token)
     (λ c. search needs)
     (λ c κs. search (there, needs))
-    (λ c. search needs)
-    (λ c. search needs)
+    (λ c. search needs) (λ c. search needs)
     (λ c. search (this-kind, told))
     (λ c. search (other-kind, told))
     (λ c. search (outside, told)))

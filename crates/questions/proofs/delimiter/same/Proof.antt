@@ -39,10 +39,8 @@ same-spec =
     μ-loop
     (λ c. search other-lengths)
     (λ c. (search needs, search needs, refl))
-    (λ c. search needs)
-    (λ c. search needs)
+    (λ c. search needs) (λ c. search needs)
     (λ c. search differs)
-    (λ c. search needs)
-    (λ c. search needs)
+    (λ c. search needs) (λ c. search needs)
     (λ c. (search needs, search needs, search goes-on))
     (λ c. search ended))

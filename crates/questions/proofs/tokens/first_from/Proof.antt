@@ -44,7 +44,6 @@ first-from-spec =
     (λ c. search needs)
     (λ c. search a-leaf)
     returns-2
-    (λ c. search needs)
-    (λ c. search needs)
+    (λ c. search needs) (λ c. search needs)
     (λ c. (search needs, search a-node))
     (λ c. search no-more))

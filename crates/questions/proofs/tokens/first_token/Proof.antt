@@ -30,9 +30,7 @@ pub first-token-spec : {M : Type 1} → statement M
 first-token-spec =
     tie.close
     (tie.spec
-    (λ c. search needs)
-    (λ c. search needs)
-    (λ c. search needs)
+    (λ c. search needs) (λ c. search needs) (λ c. search needs)
     (λ c. search no-formula)
     add-first-from
     (λ c κs. search (behind, within))

@@ -38,8 +38,7 @@ last-before-spec =
     Inv-loop
     μ-loop
     (λ c. (search needs, refl))
-    (λ c. search needs)
-    (λ c. search needs)
+    (λ c. search needs) (λ c. search needs)
     (λ c. search a-leaf)
     (λ c. search an-empty-node)
     (λ c. search needs)

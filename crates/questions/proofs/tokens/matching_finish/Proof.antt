@@ -67,7 +67,6 @@ matching-finish-spec =
     returns
     (λ c. search needs)
     (λ c. search shut)
-    (λ c. search needs)
-    (λ c. search needs)
+    (λ c. search needs) (λ c. search needs)
     (λ c. (search needs, search needs, omega arith, search one-more, search goes-on))
     (λ c. search no-more))

@@ -1,4 +1,5 @@
--- `readable` meets its contract: its tests are the rule's. A no to one of them is a no to the whole, and a yes to all leaves the last. Assumes nothing.
+-- `readable` meets its contract: its tests are the rule's. A no to one of them is a no to the whole, and a yes to all leaves the last.
+-- Assumes nothing.
 use Prim.Native.Nat.{ℕ, _≤_, _<_}
 use mathlib.Core.Bool.{Bool, true, false, not, and-false}
 use mathlib.Core.List.{List}
