@@ -1,4 +1,5 @@
 -- What the proofs of several functions use, and what other crates cite.
 pub mod Formulas
 pub mod OnTrees
+pub mod Tagged
 pub mod Tests

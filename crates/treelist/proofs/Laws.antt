@@ -1,4 +1,5 @@
--- A sheet's tables as the parts that the program cuts out, and what the answer of `list` is where the lines have room. Assumes nothing.
+-- A sheet's tables are the parts that the program cuts out; what is printed of it is the listing of its run, or of refusal 9; and the lines of every
+-- answer have room, since no row has more than four numbers of 32 bits. Assumes nothing.
 use Prim.Native.Nat.{ℕ, _+_, _*_, _-_, _≤_}
 use mathlib.Core.Bool.{true, false}
 use mathlib.Core.List.{List}

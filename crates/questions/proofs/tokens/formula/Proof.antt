@@ -1,5 +1,5 @@
 -- `formula` meets its contract: its tests are the rule's, and a row that has a tag is there. Assumes nothing.
-use Prim.Native.Nat.{ℕ, _<_}
+use Prim.Native.Nat.{ℕ}
 use mathlib.Core.Bool.{Bool, true, false}
 use mathlib.Core.List.{List}
 use mathlib.Core.Option.{Option, none}
@@ -8,16 +8,13 @@ use borrow.Author.Needs.{needs}
 use borrow.Author.Tests.{eq-eqb, ne-eqb}
 use Rattle.rules.specs.Flat.{tagStart}
 use Rattle.rules.specs.SyntaxKind.{ItemFormula}
-use Rattle.rules.specs.Questions.{rowCount, kindAt, tagged, matchingFinish, formula}
-use Rattle.rules.proofs.Questions.{tagged-there}
+use Rattle.rules.specs.Questions.{kindAt, tagged, matchingFinish, formula}
+use Rattle.questions.proofs.Tagged.{there}
 use Rattle.questions.proofs.Tests.{told}
 use Rattle.questions.proofs.tokens.formula.Statement.{statement}
 use Rattle.questions.proofs.tokens.formula.Tie as tie
 
 module _ (tree : List ℕ) (row : ℕ) {starts : Bool} (is : starts ≡ tagged tagStart tree row) where
-  there : starts ≡ true → row < rowCount tree
-  there known = tagged-there tagStart tree row (told is known)
-
   no-start : starts ≡ false → none ≡ formula tree row
   unfolding formula
   no-start known = rw (told is known)
