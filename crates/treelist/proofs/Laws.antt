@@ -3,7 +3,7 @@
 use Prim.Native.Nat.{ℕ, _+_, _*_, _-_, _≤_}
 use mathlib.Core.Bool.{true, false}
 use mathlib.Core.List.{List}
-use mathlib.Core.Path.{_≡_, sym, ap}
+use mathlib.Core.Path.{_≡_, sym, ap, _∙_}
 use native.Mathlib.Omega.{arith}
 use borrow.Author.Tests.{le-leb}
 use lib.ListN.{length, take, getD}
@@ -108,3 +108,7 @@ module _ {lines out after : List ℕ} {count : ℕ} (k : Prints lines out count 
 
   pub prefix-long : count ≡ length (take count after)
   prefix-long = sym (length-take-le count after inside)
+
+-- ---- what is printed, and every byte of the buffer, are the only ones that meet the contract
+pub only-printed : {lines out v w : List ℕ} {r s : ℕ} → Prints lines out r v → Prints lines out s w → (r ≡ s) × (v ≡ w)
+only-printed one other = (one .count ∙ sym (other .count), one .written ∙ sym (other .written))
