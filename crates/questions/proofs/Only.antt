@@ -1,5 +1,5 @@
--- The contracts fix what they speak of: two results that meet one are equal. A contract that equates the result with a rule's leaves one value, whatever
--- the function; where the result stands for a row or for none, no two stand for the same. Assumes nothing.
+-- The contracts fix what they speak of: two results that meet one are equal. A contract that equates the result with a rule's leaves one value,
+-- whatever the function; where the result stands for a row or for none, no two stand for the same. Assumes nothing.
 use Prim.Native.Nat.{ℕ}
 use mathlib.Core.Option.{Option}
 use mathlib.Core.Path.{_≡_, refl, sym, _∙_}

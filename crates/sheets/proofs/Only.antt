@@ -1,5 +1,5 @@
--- The contracts of the functions below `read` and `list` fix what they speak of: two results that meet one are equal, and so are two buffers. Each is an
--- equation with the rule for every field. Assumes nothing.
+-- The contracts of the functions below `read` and `list` fix what they speak of: two results that meet one are equal, and so are two buffers. Each
+-- is an equation with the rule for every field. Assumes nothing.
 use Prim.Native.Nat.{ℕ, _<_}
 use mathlib.Core.List.{List}
 use mathlib.Core.Path.{_≡_, sym, _∙_}

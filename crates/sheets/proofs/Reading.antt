@@ -1,4 +1,5 @@
--- What the tests and the three parts of `read` come to: the answer and the numbers of the rule. Assumes nothing.
+-- What the tests and the three parts of `read` come to: the answer and the numbers of the rule. Each table is read behind those that are there
+-- already (`next`), so that after three of them the buffer begins with all. Assumes nothing.
 use Prim.Native.Nat.{ℕ, _+_, _-_, _/_, _≤_, _<_}
 use mathlib.Core.Bool.{true, false}
 use mathlib.Core.List.{List, [], _++_, append-assoc}
@@ -10,27 +11,27 @@ use lib.ListN.{length, drop, length-append, length-drop}
 use Rattle.rules.specs.Run.{over}
 use Rattle.rules.specs.Sheet.{numberBytes, numberAt, numbersAt, tokensAt, shapesAt, statesAt, tableAt, tablesOf, readable, read}
 use Rattle.rules.proofs.Sheet.{table-long, whole, text-long}
-use Rattle.sheets.specs.Contract.{Placed, Counted, Room, Reads, numbersOf, sectionsOf}
+use Rattle.sheets.specs.Contract.{Counted, Room, Reads, numbersOf, sectionsOf}
 use Rattle.sheets.specs.declared.sections.Places.{Places}
 use Rattle.sheets.specs.declared.sections.Sections.{Sections}
 use Rattle.sheets.specs.declared.sheet.Sheet.the-variants.{Read, Refused, NoRoom}
 use Rattle.sheets.proofs.Numbers.{part-more}
 
 -- ---- so many numbers of a buffer, lent from a place on, and the buffer when they are back
-abbrev lent : ℕ → ℕ → List ℕ → List ℕ
+abbrev pub lent : ℕ → ℕ → List ℕ → List ℕ
 lent from count v = midOf from (from + count - from) v
 
-abbrev back : ℕ → ℕ → List ℕ → List ℕ → List ℕ
+abbrev pub back : ℕ → ℕ → List ℕ → List ℕ → List ℕ
 back from count v part = putMid from (from + count - from) v part
 
 -- the first numbers of a buffer are `done`, and all behind them as they were
-record Done (numbers done : List ℕ) (count : ℕ) (v : List ℕ) : Type 0 where
-  is : v ≡ done ++ drop count numbers
-  long : length done ≡ count
-  fits : count ≤ length numbers
+pub record Done (numbers done : List ℕ) (count : ℕ) (v : List ℕ) : Type 0 where
+  pub is : v ≡ done ++ drop count numbers
+  pub long : length done ≡ count
+  pub fits : count ≤ length numbers
 
 -- the next table is read behind them
-next : (sheet numbers : List ℕ) (at : ℕ) {place count from : ℕ} {done v part : List ℕ} → Done numbers done from v → from + count ≤ length numbers
+pub next : (sheet numbers : List ℕ) (at : ℕ) {place count from : ℕ} {done v part : List ℕ} → Done numbers done from v → from + count ≤ length numbers
     → place ≡ at → count ≡ numberAt sheet at / numberBytes → part ≡ numbersAt sheet (place + numberBytes) (length (lent from count v))
     → Done numbers (done ++ tableAt sheet at) (from + count) (back from count v part)
 next sheet numbers at {place} {count} {from} {done} {v} {part} so-far fits here counted read =

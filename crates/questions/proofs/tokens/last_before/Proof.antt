@@ -4,7 +4,6 @@ use mathlib.Core.List.{List}
 use mathlib.Core.Option.{Option, none, some}
 use mathlib.Core.Path.{_≡_, refl, sym, _∙_}
 use borrow.Author.Needs.{needs}
-use native.Mathlib.Omega.{arith}
 use Rattle.rules.specs.Flat.{tagLeaf, tagFinish}
 use Rattle.rules.specs.Questions.{tagAt, lastBefore}
 use Rattle.rules.proofs.Questions.{last-next, last-end, descend-leaf, descend-none, descend-into}

@@ -3,7 +3,6 @@ use mathlib.Core.List.{List, [], _∷_, _++_, append-assoc, append-nil}
 use mathlib.Core.Path.{_≡_}
 use Prim.Native.Nat.{ℕ, _^_, _<_}
 use borrow.Author.Needs.{needs}
-use native.Mathlib.Omega.{arith}
 use lib.ListN.{length}
 use Rattle.rules.specs.Listing.{line, numbered, blank, decimal, lineBreak}
 use Rattle.sheets.specs.Contract.{Wrote}
@@ -17,9 +16,10 @@ parts : (first : List ℕ) (one other : ℕ)
 unfolding line numbered
 parts first one other = simp (append-assoc, append-nil)
 
-written : (first : List ℕ) (one other : ℕ) {out named half whole all : List ℕ} {at a b c end : ℕ} → length out < 2 ^ 64 → at < 2 ^ 64
-    → Wrote first out at named a → Wrote (blank ∷ decimal one) named a half b → Wrote (blank ∷ decimal other) half b whole c
-    → Wrote (lineBreak ∷ []) whole c all end → Wrote (line first (one ∷ other ∷ [])) out at all end
+written : (first : List ℕ) (one other : ℕ) {out named half whole all : List ℕ} {at name-end one-end other-end end : ℕ}
+    → length out < 2 ^ 64 → at < 2 ^ 64 → Wrote first out at named name-end → Wrote (blank ∷ decimal one) named name-end half one-end
+    → Wrote (blank ∷ decimal other) half one-end whole other-end → Wrote (lineBreak ∷ []) whole other-end all end
+    → Wrote (line first (one ∷ other ∷ [])) out at all end
 written first one other short low word-put one-put other-put break-put =
     rw (parts first one other)
     (closes (goes (goes (goes (all-left _ _ _ short low) word-put) one-put) other-put) break-put)
