@@ -1,5 +1,6 @@
--- In rows that a tree is laid out in, the questions of a formula's row have the answers that the source has of its node: by induction over the tree the walk
--- to the finish passes each child's rows as one, and the first and the last row that is not passed are the leaves that rowan descends to. Assumes nothing.
+-- In rows that a tree is laid out in, the questions of a formula's row have the answers that the source has of its node. By induction over the tree
+-- the walk to the finish passes each child's rows as one; the first and the last row that it does not pass are the leaves that rowan descends to.
+-- Assumes nothing.
 use Prim.Native.Nat.{ℕ, _+_, _*_, _-_, _≤_, _<_}
 use mathlib.Core.List.{List, [], _∷_, _++_, append-assoc}
 use mathlib.Core.Option.{Option, none, some}
@@ -9,7 +10,7 @@ use native.Mathlib.Nat.{add-zero, add-assoc}
 use native.Mathlib.Omega.{arith}
 use lib.ListN.{length, getD, drop, length-append, length-drop}
 use lib.Seq.{drop-drop, drop-append-seam, getD-drop}
-use Rattle.rules.specs.Flat.{leafRow, startRow, finishRow}
+use Rattle.rules.specs.Flat.{tagFinish, leafRow, startRow, finishRow}
 use Rattle.rules.specs.Limits
 use Rattle.rules.specs.Questions.{rowCount, tagAt, tagged, rangeAt, openAfter, balance, formula, firstToken, lastToken, firstFrom, lastBefore, firstLeaf, firstOf, lastLeaf, lastOf, leafAt, display, inline, matched, isDisplay, isInline, isValid}
 use Rattle.rules.proofs.Questions.{balance-on, balance-here, first-next, first-end, last-step}
@@ -28,10 +29,12 @@ module _ {tree : List ℕ} {row : ℕ} (a b : List ℕ) (s : Stands tree row (a 
 
   stands-then : (count : ℕ) → length a ≡ count * Limits.treeWidth → Stands tree (row + count) b
   stands-then count long =
-      let on : (row + count) * Limits.treeWidth ≡ row * Limits.treeWidth + length a = omega arith in
+      let from = row * Limits.treeWidth in
+      let on : (row + count) * Limits.treeWidth ≡ from + length a = omega arith in
+      let here = s .is ∙ append-assoc a b (s .rest) in
       record {
         rest = s .rest;
-        is = rw on (sym (drop-drop (length a) (row * Limits.treeWidth) tree) ∙ ap (drop (length a)) (s .is ∙ append-assoc a b (s .rest)) ∙ drop-append-seam a (b ++ s .rest));
+        is = rw on (sym (drop-drop (length a) from tree) ∙ ap (drop (length a)) here ∙ drop-append-seam a (b ++ s .rest));
       }
 
 -- one row
@@ -102,19 +105,23 @@ split child rest s =
 
 -- ---- the matching finish: the rows of whole trees are passed, and what is open stays open
 module _ (tree : List ℕ) where
+  pass-row : {at tag kind from long : ℕ} (deep : ℕ) → Stands tree at (tag ∷ kind ∷ from ∷ long ∷ []) → tag ≤ tagFinish → (openAfter tag deep ≡ 0 → ⊥)
+      → balance tree (rowCount tree - at) at deep ≡ balance tree (rowCount tree - (at + 1)) (at + 1) (openAfter tag deep)
+  pass-row {at} deep s = balance-on tree (rowCount tree) at deep (tag-there s) (there s)
+
   mutual
     unfolding layout layouts size sizes openAfter
 
     pass-tree : (t : Tree) (at deep : ℕ) → Stands tree at (layout t) → 0 < deep
         → balance tree (rowCount tree - at) at deep ≡ balance tree (rowCount tree - (at + size t)) (at + size t) deep
-    pass-tree (leaf kind from long) at deep s deeper = balance-on tree (rowCount tree) at deep (tag-there s) (there s) (omega arith) (omega arith)
+    pass-tree (leaf kind from long) at deep s deeper = pass-row deep s (omega arith) (omega arith)
     pass-tree (node kind children) at deep s deeper =
-        let n = node-rows kind children s in
+        let rows = node-rows kind children s in
         let back : deep + 1 - 1 ≡ deep = omega arith in
         let here : at + 1 + sizes children + 1 ≡ at + (1 + sizes children + 1) = omega arith in
-        balance-on tree (rowCount tree) at deep (tag-there (n .start)) (there (n .start)) (omega arith) (omega arith)
-        ∙ pass-forest children (at + 1) (deep + 1) (n .inside) (omega arith)
-        ∙ balance-on tree (rowCount tree) (at + 1 + sizes children) (deep + 1) (tag-there (n .finish)) (there (n .finish)) (omega arith) (omega arith)
+        pass-row deep (rows .start) (omega arith) (omega arith)
+        ∙ pass-forest children (at + 1) (deep + 1) (rows .inside) (omega arith)
+        ∙ pass-row (deep + 1) (rows .finish) (omega arith) (omega arith)
         ∙ rw (back, here)
 
     pass-forest : (f : Forest) (at deep : ℕ) → Stands tree at (layouts f) → 0 < deep
@@ -125,7 +132,8 @@ module _ (tree : List ℕ) where
         pass-tree child at deep (parts .first) deeper ∙ pass-forest rest (at + size child) deep (parts .others) deeper ∙ rw add-assoc
 
   -- what a leaf's row says
-  leaf-found : {at kind from long : ℕ} → Stands tree at (leafRow kind from long) → leafAt tree (some at) ≡ some (kind, record { start = from; size = long })
+  leaf-found : {at kind from long : ℕ} → Stands tree at (leafRow kind from long)
+      → leafAt tree (some at) ≡ some (kind, record { start = from; size = long })
   unfolding tagged rangeAt
   leaf-found {at} s = rw (lt-ltb at (rowCount tree) (there s), number s 0, number s 1, number s 2, number s 3)
 
@@ -138,11 +146,12 @@ module _ (tree : List ℕ) where
       first-tree (leaf kind from long) at s fits =
           ap (leafAt tree) (first-next tree to at (tag-there s) (omega arith)) ∙ leaf-found s
       first-tree (node kind children) at s fits =
-          let n = node-rows kind children s in
-          ap (leafAt tree) (first-next tree to at (tag-there (n .start)) (omega arith))
-          ∙ first-inside children (at + 1) (n .inside) (n .finish) (omega arith)
+          let rows = node-rows kind children s in
+          ap (leafAt tree) (first-next tree to at (tag-there (rows .start)) (omega arith))
+          ∙ first-inside children (at + 1) (rows .inside) (rows .finish) (omega arith)
 
-      first-inside : (f : Forest) (at : ℕ) {kind : ℕ} → Stands tree at (layouts f) → Stands tree (at + sizes f) (finishRow kind) → at + sizes f < to → leafAt tree (firstFrom tree (to - at) at) ≡ firstOf f
+      first-inside : (f : Forest) (at : ℕ) {kind : ℕ} → Stands tree at (layouts f) → Stands tree (at + sizes f) (finishRow kind)
+          → at + sizes f < to → leafAt tree (firstFrom tree (to - at) at) ≡ firstOf f
       first-inside Forest.none at s end fits = ap (leafAt tree) (first-next tree to at (tag-there (rw add-zero at end)) (omega arith))
       first-inside (more child rest) at s end fits = first-tree child at (split child rest s .first) (omega arith)
 
@@ -153,14 +162,15 @@ module _ (tree : List ℕ) where
     last-tree : (t : Tree) (at : ℕ) → Stands tree at (layout t) → leafAt tree (lastBefore tree (at + size t)) ≡ lastLeaf t
     last-tree (leaf kind from long) at s = ap (leafAt tree) (last-step tree at (tag-there s)) ∙ leaf-found s
     last-tree (node kind children) at s =
-        let n = node-rows kind children s in
+        let rows = node-rows kind children s in
         let here : at + (1 + sizes children + 1) ≡ at + 1 + sizes children + 1 = omega arith in
         ap (λ (end : ℕ). leafAt tree (lastBefore tree end)) here
-        ∙ ap (leafAt tree) (last-step tree (at + 1 + sizes children) (tag-there (n .finish)))
-        ∙ last-forest children (at + 1) (n .inside)
-        ∙ ap (λ (o : Option ℕ). lastOf children (leafAt tree o)) (last-step tree at (tag-there (n .start)))
+        ∙ ap (leafAt tree) (last-step tree (at + 1 + sizes children) (tag-there (rows .finish)))
+        ∙ last-forest children (at + 1) (rows .inside)
+        ∙ ap (λ (o : Option ℕ). lastOf children (leafAt tree o)) (last-step tree at (tag-there (rows .start)))
 
-    last-forest : (f : Forest) (at : ℕ) → Stands tree at (layouts f) → leafAt tree (lastBefore tree (at + sizes f)) ≡ lastOf f (leafAt tree (lastBefore tree at))
+    last-forest : (f : Forest) (at : ℕ) → Stands tree at (layouts f)
+        → leafAt tree (lastBefore tree (at + sizes f)) ≡ lastOf f (leafAt tree (lastBefore tree at))
     last-forest Forest.none at s = rw add-zero
     last-forest (more child rest) at s =
         let parts = split child rest s in
@@ -175,15 +185,15 @@ pub record Tokens (tree : List ℕ) (row : ℕ) (t : Tree) : Type 0 where
   pub last : leafAt tree (lastToken tree row) ≡ lastLeaf t
 
 module _ (tree : List ℕ) (row : ℕ) (children : Forest) (s : Stands tree row (layout (node ItemFormula children))) where
-  n : Node tree row ItemFormula children
-  n = node-rows ItemFormula children s
+  rows : Node tree row ItemFormula children
+  rows = node-rows ItemFormula children s
 
   formula-is : formula tree row ≡ some (row + 1 + sizes children)
   unfolding formula tagged openAfter
   formula-is =
-      rw (lt-ltb row (rowCount tree) (there (n .start)), number (n .start) 0, number (n .start) 1)
-      (pass-forest tree children (row + 1) 1 (n .inside) (omega arith)
-      ∙ balance-here tree (rowCount tree) (row + 1 + sizes children) 1 (tag-there (n .finish)) (there (n .finish)) (omega arith) refl)
+      rw (lt-ltb row (rowCount tree) (there (rows .start)), number (rows .start) 0, number (rows .start) 1)
+      (pass-forest tree children (row + 1) 1 (rows .inside) (omega arith)
+      ∙ balance-here tree (rowCount tree) (row + 1 + sizes children) 1 (tag-there (rows .finish)) (there (rows .finish)) (omega arith) refl)
 
   first-all : (f : Forest) (at : ℕ) → Stands tree at (layouts f) → leafAt tree (firstFrom tree (at + sizes f - at) at) ≡ firstOf f
   unfolding sizes firstOf
@@ -194,10 +204,11 @@ module _ (tree : List ℕ) (row : ℕ) (children : Forest) (s : Stands tree row 
   unfolding firstToken lastToken firstLeaf lastLeaf
   tokens =
       record {
-        first = rw formula-is (first-all children (row + 1) (n .inside));
+        first = rw formula-is (first-all children (row + 1) (rows .inside));
         last =
             rw formula-is
-            (last-forest tree children (row + 1) (n .inside) ∙ ap (λ (o : Option ℕ). lastOf children (leafAt tree o)) (last-step tree row (tag-there (n .start))));
+            (last-forest tree children (row + 1) (rows .inside)
+            ∙ ap (λ (o : Option ℕ). lastOf children (leafAt tree o)) (last-step tree row (tag-there (rows .start))));
       }
 
 -- the three answers, by the row, are those that the source has of the node
@@ -211,7 +222,12 @@ pub on-trees : (text before after : List ℕ) (row : ℕ) (children : Forest) �
     → Answers text (before ++ (layout (node ItemFormula children) ++ after)) row (node ItemFormula children)
 on-trees text before after row children long =
     let rows = layout (node ItemFormula children) in
-    let found =
-    tokens (before ++ (rows ++ after)) row children
-    (record { rest = after; is = ap (λ (k : ℕ). drop k (before ++ (rows ++ after))) (sym long) ∙ drop-append-seam before (rows ++ after) }) in
-    record { display = ap (display text) (found .first); inline = ap (inline text) (found .first); valid = ap₂ (matched text) (found .first) (found .last) }
+    let tree = before ++ (rows ++ after) in
+    let stands : Stands tree row rows =
+    record { rest = after; is = ap (λ (k : ℕ). drop k tree) (sym long) ∙ drop-append-seam before (rows ++ after) } in
+    let found = tokens tree row children stands in
+    record {
+      display = ap (display text) (found .first);
+      inline = ap (inline text) (found .first);
+      valid = ap₂ (matched text) (found .first) (found .last);
+    }

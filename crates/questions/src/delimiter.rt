@@ -11,15 +11,15 @@ use crate::tokens::Found;
 use syntax::SyntaxKind;
 
 // Whether two texts are the same.
-fn same(a: &[u8], b: &[u8]) -> bool
-    ensures { λ r. ⌜ r ≡ same (now (a .entry)) (now (b .entry)) ⌝ }
+fn same(one: &[u8], other: &[u8]) -> bool
+    ensures { λ r. ⌜ r ≡ same (now (one .entry)) (now (other .entry)) ⌝ }
 {
-    if a.len() != b.len() {
+    if one.len() != other.len() {
         return false;
     }
     let mut i = 0;
-    while i < a.len() {
-        if a[i] != b[i] {
+    while i < one.len() {
+        if one[i] != other[i] {
             return false;
         }
         i += 1;
@@ -29,7 +29,9 @@ fn same(a: &[u8], b: &[u8]) -> bool
 
 // Whether a token lies inside the text, is of this kind and has these bytes.
 pub fn is_delimiter(text: &[u8], tree: &[u32], token: Found, kind: u32, bytes: &[u8]) -> bool
-    ensures { λ r. ⌜ r ≡ isDelimiter (now (text .entry)) (record { kind = kind; bytes = now (bytes .entry) }) (leafAt (now (tree .entry)) (foundOf token)) ⌝ }
+    ensures { λ r. ⌜ r ≡ isDelimiter (now (text .entry))
+        (record { kind = kind; bytes = now (bytes .entry) })
+        (leafAt (now (tree .entry)) (foundOf token)) ⌝ }
 {
     let Found::At(row) = token else {
         return false;
@@ -53,7 +55,11 @@ fn between(
     closes: u32,
     closer: &[u8],
 ) -> bool
-    ensures { λ r. ⌜ r ≡ between (now (text .entry)) (record { kind = opens; bytes = now (opener .entry) }) (record { kind = closes; bytes = now (closer .entry) }) (leafAt (now (tree .entry)) (foundOf first)) (leafAt (now (tree .entry)) (foundOf last)) ⌝ }
+    ensures { λ r. ⌜ r ≡ between (now (text .entry))
+        (record { kind = opens; bytes = now (opener .entry) })
+        (record { kind = closes; bytes = now (closer .entry) })
+        (leafAt (now (tree .entry)) (foundOf first))
+        (leafAt (now (tree .entry)) (foundOf last)) ⌝ }
 {
     if is_delimiter(text, tree, first, opens, opener) {
         return is_delimiter(text, tree, last, closes, closer);
@@ -63,7 +69,11 @@ fn between(
 
 // Whether both are a TokenDollar with this text.
 pub fn dollars(text: &[u8], tree: &[u32], first: Found, last: Found, dollar: &[u8]) -> bool
-    ensures { λ r. ⌜ r ≡ between (now (text .entry)) (record { kind = TokenDollar; bytes = now (dollar .entry) }) (record { kind = TokenDollar; bytes = now (dollar .entry) }) (leafAt (now (tree .entry)) (foundOf first)) (leafAt (now (tree .entry)) (foundOf last)) ⌝ }
+    ensures { λ r. ⌜ r ≡ between (now (text .entry))
+        (record { kind = TokenDollar; bytes = now (dollar .entry) })
+        (record { kind = TokenDollar; bytes = now (dollar .entry) })
+        (leafAt (now (tree .entry)) (foundOf first))
+        (leafAt (now (tree .entry)) (foundOf last)) ⌝ }
 {
     let kind = SyntaxKind::TOKEN_DOLLAR;
     between(text, tree, first, last, kind, dollar, kind, dollar)
@@ -71,7 +81,11 @@ pub fn dollars(text: &[u8], tree: &[u32], first: Found, last: Found, dollar: &[u
 
 // Whether they are a TokenBeginMath and a TokenEndMath with these texts.
 pub fn math(text: &[u8], tree: &[u32], first: Found, last: Found, begin: &[u8], end: &[u8]) -> bool
-    ensures { λ r. ⌜ r ≡ between (now (text .entry)) (record { kind = TokenBeginMath; bytes = now (begin .entry) }) (record { kind = TokenEndMath; bytes = now (end .entry) }) (leafAt (now (tree .entry)) (foundOf first)) (leafAt (now (tree .entry)) (foundOf last)) ⌝ }
+    ensures { λ r. ⌜ r ≡ between (now (text .entry))
+        (record { kind = TokenBeginMath; bytes = now (begin .entry) })
+        (record { kind = TokenEndMath; bytes = now (end .entry) })
+        (leafAt (now (tree .entry)) (foundOf first))
+        (leafAt (now (tree .entry)) (foundOf last)) ⌝ }
 {
     let opens = SyntaxKind::TOKEN_BEGIN_MATH;
     let closes = SyntaxKind::TOKEN_END_MATH;

@@ -11,7 +11,10 @@ use syntax::SyntaxKind;
 
 // Whether the first token is a TokenDollar with the one text or a TokenBeginMath with the other.
 fn opens(text: &[u8], tree: &[u32], row: usize, dollar: &[u8], math: &[u8]) -> bool
-    ensures { λ r. ⌜ r ≡ oneOf (now (text .entry)) (record { kind = TokenDollar; bytes = now (dollar .entry) }) (record { kind = TokenBeginMath; bytes = now (math .entry) }) (leafAt (now (tree .entry)) (firstToken (now (tree .entry)) row)) ⌝ }
+    ensures { λ r. ⌜ r ≡ oneOf (now (text .entry))
+        (record { kind = TokenDollar; bytes = now (dollar .entry) })
+        (record { kind = TokenBeginMath; bytes = now (math .entry) })
+        (leafAt (now (tree .entry)) (firstToken (now (tree .entry)) row)) ⌝ }
 {
     let first = first_token(tree, row);
     if is_delimiter(text, tree, first, SyntaxKind::TOKEN_DOLLAR, dollar) {

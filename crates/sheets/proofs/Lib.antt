@@ -1,6 +1,7 @@
 -- The laws that the proofs of the sheets cite.
 pub mod Answers
 pub mod Numbers
+pub mod Only
 pub mod Reading
 pub mod Twice
 pub mod Writing

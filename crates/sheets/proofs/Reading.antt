@@ -1,4 +1,5 @@
--- What the tests and the three parts of `read` come to: the answer and the numbers of the rule. Assumes nothing.
+-- What the tests and the three parts of `read` come to: the answer and the numbers of the rule. Each table is read behind those that are there
+-- already (`next`), so that after three of them the buffer begins with all. Assumes nothing.
 use Prim.Native.Nat.{ℕ, _+_, _-_, _/_, _≤_, _<_}
 use mathlib.Core.Bool.{true, false}
 use mathlib.Core.List.{List, [], _++_, append-assoc}
@@ -7,91 +8,97 @@ use native.Mathlib.Omega.{arith}
 use borrow.Author.Tests.{le-leb, lt-leb}
 use borrow.Rule.Slice.PartMut.{midOf, putMid, mid-len}
 use lib.ListN.{length, drop, length-append, length-drop}
+use Rattle.rules.specs.Run.{over}
 use Rattle.rules.specs.Sheet.{numberBytes, numberAt, numbersAt, tokensAt, shapesAt, statesAt, tableAt, tablesOf, readable, read}
 use Rattle.rules.proofs.Sheet.{table-long, whole, text-long}
-use Rattle.sheets.specs.Contract.{Placed, Counted, Reads, numbersOf, sectionsOf}
+use Rattle.sheets.specs.Contract.{Counted, Room, Reads, numbersOf, sectionsOf}
 use Rattle.sheets.specs.declared.sections.Places.{Places}
 use Rattle.sheets.specs.declared.sections.Sections.{Sections}
 use Rattle.sheets.specs.declared.sheet.Sheet.the-variants.{Read, Refused, NoRoom}
 use Rattle.sheets.proofs.Numbers.{part-more}
 
--- a part that was lent from a to e has the numbers of the table at a place
-part-is : (sheet t : List ℕ) (at : ℕ) {p n : ℕ} (a e : ℕ) {part : List ℕ} → e ≤ length t → p ≡ at → n ≡ numberAt sheet at / numberBytes → e - a ≡ n
-    → part ≡ numbersAt sheet (p + numberBytes) (length (midOf a (e - a) t)) → part ≡ tableAt sheet at
-part-is sheet t at a e fits here count size is = is ∙ rw (mid-len a e t fits, here, size, count)
+-- ---- so many numbers of a buffer, lent from a place on, and the buffer when they are back
+abbrev pub lent : ℕ → ℕ → List ℕ → List ℕ
+lent from count v = midOf from (from + count - from) v
 
--- where the tables end in the buffer, and the buffer when the first of them is back, and the second
-abbrev end₁ : Sections → ℕ
-end₁ s = 0 + s .tokens
+abbrev pub back : ℕ → ℕ → List ℕ → List ℕ → List ℕ
+back from count v part = putMid from (from + count - from) v part
 
-abbrev end₂ : Sections → ℕ
-end₂ s = end₁ s + s .shapes
+-- the first numbers of a buffer are `done`, and all behind them as they were
+pub record Done (numbers done : List ℕ) (count : ℕ) (v : List ℕ) : Type 0 where
+  pub is : v ≡ done ++ drop count numbers
+  pub long : length done ≡ count
+  pub fits : count ≤ length numbers
 
-abbrev end₃ : Sections → ℕ
-end₃ s = end₂ s + s .states
-
-abbrev after₁ : Sections → List ℕ → List ℕ → List ℕ
-after₁ s numbers y₁ = putMid 0 (end₁ s - 0) numbers y₁
-
-abbrev after₂ : Sections → List ℕ → List ℕ → List ℕ → List ℕ
-after₂ s numbers y₁ y₂ = putMid (end₁ s) (end₂ s - end₁ s) (after₁ s numbers y₁) y₂
+-- the next table is read behind them
+pub next : (sheet numbers : List ℕ) (at : ℕ) {place count from : ℕ} {done v part : List ℕ} → Done numbers done from v → from + count ≤ length numbers
+    → place ≡ at → count ≡ numberAt sheet at / numberBytes → part ≡ numbersAt sheet (place + numberBytes) (length (lent from count v))
+    → Done numbers (done ++ tableAt sheet at) (from + count) (back from count v part)
+next sheet numbers at {place} {count} {from} {done} {v} {part} so-far fits here counted read =
+    let v-long : length v ≡ length numbers = ap length (so-far .is) ∙ simp (length-append, length-drop) (omega (arith, so-far .long, so-far .fits)) in
+    let size : from + count - from ≡ count = omega arith in
+    let table : part ≡ tableAt sheet at = read ∙ rw (mid-len from (from + count) v (omega arith), here, size, counted) in
+    record {
+      is = rw (← table) (part-more done numbers part from (from + count) (so-far .long) (omega arith) (so-far .is));
+      long = simp length-append (omega (arith, so-far .long, table-long sheet at));
+      fits = fits;
+    }
 
 module _ (sheet numbers : List ℕ) where
   pub refused : readable sheet ≡ false → Reads (read sheet) numbers Refused numbers
   unfolding read
-  refused e = record { answer = rw e; refusal = rw e; written = rw e }
+  refused no-sheet = record { answer = rw no-sheet; refusal = rw no-sheet; written = rw no-sheet }
 
-  module _ {s : Sections} (ok : readable sheet ≡ true) (k : Counted sheet s) where
-    long : (at n : ℕ) → n ≡ numberAt sheet at / numberBytes → length (tableAt sheet at) ≡ n
-    long at n e = table-long sheet at ∙ sym e
+  module _ {s : Sections} (counts : Counted sheet s) where
+    tokens-long : length (tableAt sheet (tokensAt sheet)) ≡ s .tokens
+    tokens-long = table-long sheet (tokensAt sheet) ∙ sym (counts .tokens)
 
-    counted : sectionsOf (tablesOf sheet) ≡ s
-    counted =
-        rw (text-long sheet (whole sheet ok) ∙ sym (k .text), long (tokensAt sheet) (s .tokens) (k .tokens), long (shapesAt sheet) (s .shapes) (k .shapes), long (statesAt sheet) (s .states) (k .states))
+    shapes-long : length (tableAt sheet (shapesAt sheet)) ≡ s .shapes
+    shapes-long = table-long sheet (shapesAt sheet) ∙ sym (counts .shapes)
+
+    states-long : length (tableAt sheet (statesAt sheet)) ≡ s .states
+    states-long = table-long sheet (statesAt sheet) ∙ sym (counts .states)
 
     total : length (numbersOf (tablesOf sheet)) ≡ s .tokens + s .shapes + s .states
-    total =
-        let a = long (tokensAt sheet) (s .tokens) (k .tokens) in
-        let b = long (shapesAt sheet) (s .shapes) (k .shapes) in
-        let d = long (statesAt sheet) (s .states) (k .states) in
-        simp length-append (omega arith)
+    total = simp length-append (omega (arith, tokens-long, shapes-long, states-long))
 
-    pub no-room : length numbers < s .tokens + s .shapes + s .states → Reads (read sheet) numbers (NoRoom (s .tokens + s .shapes + s .states)) numbers
-    unfolding read
-    no-room more =
-        let all = total in
-        let longer : length numbers < length (numbersOf (tablesOf sheet)) = omega arith in
-        record { answer = rw (ok, lt-leb _ _ longer, all); refusal = rw ok; written = rw (ok, lt-leb _ _ longer) }
+    module _ (ok : readable sheet ≡ true) where
+      counted : sectionsOf (tablesOf sheet) ≡ s
+      counted = rw (text-long sheet (whole sheet ok) ∙ sym (counts .text), tokens-long, shapes-long, states-long)
 
-    pub all-read : {v : List ℕ} → s .tokens + s .shapes + s .states ≤ length numbers
-        → v ≡ ((tableAt sheet (tokensAt sheet) ++ tableAt sheet (shapesAt sheet)) ++ tableAt sheet (statesAt sheet)) ++ drop (s .tokens + s .shapes + s .states) numbers
-        → Reads (read sheet) numbers (Read s) v
-    unfolding read
-    all-read fits e =
-        let all = total in
-        let room : length (numbersOf (tablesOf sheet)) ≤ length numbers = omega arith in
-        record {
-          answer = rw (ok, le-leb _ _ room, counted);
-          refusal = rw ok;
-          written = rw (ok, le-leb _ _ room, all) (e ∙ rw (append-assoc (tableAt sheet (tokensAt sheet)) (tableAt sheet (shapesAt sheet)) (tableAt sheet (statesAt sheet))));
-        }
+      pub no-room : length numbers < s .tokens + s .shapes + s .states
+          → Reads (read sheet) numbers (NoRoom (s .tokens + s .shapes + s .states)) numbers
+      unfolding read
+      no-room more =
+          let all = total in
+          let longer : length numbers < length (numbersOf (tablesOf sheet)) = omega arith in
+          record { answer = rw (ok, lt-leb _ _ longer, all); refusal = rw ok; written = rw (ok, lt-leb _ _ longer) }
 
-    -- the three parts come back one behind the other
-    pub filled : {p : Places} {y₁ y₂ y₃ : List ℕ} → Placed sheet p → end₃ s ≤ length numbers
-        → y₁ ≡ numbersAt sheet (p .tokens + numberBytes) (length (midOf 0 (end₁ s - 0) numbers))
-        → y₂ ≡ numbersAt sheet (p .shapes + numberBytes) (length (midOf (end₁ s) (end₂ s - end₁ s) (after₁ s numbers y₁)))
-        → y₃ ≡ numbersAt sheet (p .states + numberBytes) (length (midOf (end₂ s) (end₃ s - end₂ s) (after₂ s numbers y₁ y₂)))
-        → Reads (read sheet) numbers (Read s) (putMid (end₂ s) (end₃ s - end₂ s) (after₂ s numbers y₁ y₂) y₃)
-    filled {y₁ = y₁} {y₂} {y₃} placed fits e₁ e₂ e₃ =
-        let i₁ = part-is sheet numbers (tokensAt sheet) 0 (end₁ s) (omega arith) (placed .tokens) (k .tokens) (omega arith) e₁ in
-        let l₁ : length y₁ ≡ s .tokens = ap length i₁ ∙ long (tokensAt sheet) (s .tokens) (k .tokens) in
-        let first = part-more [] numbers y₁ 0 (end₁ s) refl (omega arith) refl in
-        let long₁ : length (after₁ s numbers y₁) ≡ length numbers = ap length first ∙ simp (length-append, length-drop) (omega arith) in
-        let i₂ = part-is sheet (after₁ s numbers y₁) (shapesAt sheet) (end₁ s) (end₂ s) (omega arith) (placed .shapes) (k .shapes) (omega arith) e₂ in
-        let l₂ : length y₂ ≡ s .shapes = ap length i₂ ∙ long (shapesAt sheet) (s .shapes) (k .shapes) in
-        let second = part-more y₁ numbers y₂ (end₁ s) (end₂ s) (omega arith) (omega arith) first in
-        let long₂ : length (after₂ s numbers y₁ y₂) ≡ length numbers = ap length second ∙ simp (length-append, length-drop) (omega arith) in
-        let i₃ = part-is sheet (after₂ s numbers y₁ y₂) (statesAt sheet) (end₂ s) (end₃ s) (omega arith) (placed .states) (k .states) (omega arith) e₃ in
-        let third = part-more (y₁ ++ y₂) numbers y₃ (end₂ s) (end₃ s) (omega (arith, length-append y₁ y₂)) (omega arith) second in
-        let whole : end₃ s ≡ s .tokens + s .shapes + s .states = omega arith in
-        all-read (omega arith) (rw (← i₁, ← i₂, ← i₃, ← whole) third)
+      pub all-read : {v : List ℕ} → s .tokens + s .shapes + s .states ≤ length numbers → v ≡ over (numbersOf (tablesOf sheet)) numbers
+          → Reads (read sheet) numbers (Read s) v
+      unfolding read
+      all-read fits written =
+          let all = total in
+          let room : length (numbersOf (tablesOf sheet)) ≤ length numbers = omega arith in
+          record { answer = rw (ok, le-leb _ _ room, counted); refusal = rw ok; written = rw (ok, le-leb _ _ room) written }
+
+-- the three tables one behind the other
+pub filled : (sheet numbers : List ℕ) {p : Places} {s : Sections} {tokens shapes states : List ℕ} → Room sheet p s numbers
+    → let shapes-from = 0 + s .tokens in
+    let states-from = shapes-from + s .shapes in
+    let with-tokens = back 0 (s .tokens) numbers tokens in
+    let with-shapes = back shapes-from (s .shapes) with-tokens shapes in
+    tokens ≡ numbersAt sheet (p .tokens + numberBytes) (length (lent 0 (s .tokens) numbers))
+    → shapes ≡ numbersAt sheet (p .shapes + numberBytes) (length (lent shapes-from (s .shapes) with-tokens))
+    → states ≡ numbersAt sheet (p .states + numberBytes) (length (lent states-from (s .states) with-shapes))
+    → back states-from (s .states) with-shapes states ≡ over (numbersOf (tablesOf sheet)) numbers
+filled sheet numbers {s = s} room tokens-read shapes-read states-read =
+    let placed = room .placed in
+    let counts = room .counted in
+    let fits = room .fits in
+    let none : Done numbers [] 0 numbers = record { is = refl; long = refl; fits = omega arith } in
+    let one = next sheet numbers (tokensAt sheet) none (omega arith) (placed .tokens) (counts .tokens) tokens-read in
+    let two = next sheet numbers (shapesAt sheet) one (omega arith) (placed .shapes) (counts .shapes) shapes-read in
+    let three = next sheet numbers (statesAt sheet) two (omega arith) (placed .states) (counts .states) states-read in
+    let all : length (numbersOf (tablesOf sheet)) ≡ 0 + s .tokens + s .shapes + s .states = omega (arith, total sheet numbers counts) in
+    three .is ∙ rw (all, append-assoc (tableAt sheet (tokensAt sheet)) (tableAt sheet (shapesAt sheet)) (tableAt sheet (statesAt sheet)))

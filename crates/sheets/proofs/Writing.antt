@@ -1,6 +1,7 @@
--- Laws of bytes written one behind the other, past a buffer's end too. What is left to write leads to the whole: `Leads` says that whatever writes the
--- rest from here has written the whole from the start. Each call takes a part off the rest. Assumes nothing.
-use Prim.Native.Nat.{ℕ, suc, _+_, _≤_, _<_}
+-- Laws of bytes written one behind the other, past a buffer's end too. Two calls write what one would (`then`). In a loop what is left to write leads
+-- to the whole: `Left` says that whatever writes the rest from here has written the whole from the start, and each call takes a part off the rest.
+-- Assumes nothing.
+use Prim.Native.Nat.{ℕ, suc, _+_, _^_, _≤_, _<_}
 use mathlib.Core.List.{List, [], _∷_, _++_}
 use mathlib.Core.Path.{_≡_, refl, sym, ap, _∙_}
 use native.Mathlib.Nat.{add-zero}
@@ -26,24 +27,26 @@ sets-past (a ∷ x) t i h = rw (set-out t i a h) (sets-past x t (suc i) (omega a
 pub none : (t : List ℕ) (at : ℕ) → at ≤ most → Wrote [] t at t at
 none t at h = record { is = refl; next = omega arith }
 
--- one part and then another
+-- one part and then another. Where the count stays at the largest, both places lie past the buffer's end, and nothing is written at either
 module _ {x y t v w : List ℕ} {at r s : ℕ} (short : length t ≤ most) (one : Wrote x t at v r) (other : Wrote y v r w s) where
   kept : length v ≡ length t
   kept = ap length (one .is) ∙ length-sets t at x
 
-  joined : w ≡ sets t at (x ++ y)
-  joined =
+  same-place : sets v r y ≡ sets v (at + length x) y
+  same-place =
+      let count = one .next in
       either (leb (at + length x) most)
       (λ fits.
       let low : at + length x ≤ most = leb-true (at + length x) most fits in
-      let here : r ≡ at + length x = let n = one .next in omega arith in
-      other .is ∙ ap (λ (k : ℕ). sets v k y) here ∙ ap (λ (u : List ℕ). sets u (at + length x) y) (one .is) ∙ sym (sets-append x y t at))
+      let here : r ≡ at + length x = omega arith in
+      rw here)
       (λ over.
       let high : most < at + length x = leb-false (at + length x) most over in
       let long = kept in
-      let here : length v ≤ r = let n = one .next in omega arith in
-      let there : length v ≤ at + length x = omega arith in
-      other .is ∙ sets-past y v r here ∙ sym (sets-past y v (at + length x) there) ∙ ap (λ (u : List ℕ). sets u (at + length x) y) (one .is) ∙ sym (sets-append x y t at))
+      sets-past y v r (omega arith) ∙ sym (sets-past y v (at + length x) (omega arith)))
+
+  joined : w ≡ sets t at (x ++ y)
+  joined = other .is ∙ same-place ∙ ap (λ (u : List ℕ). sets u (at + length x) y) (one .is) ∙ sym (sets-append x y t at)
 
   pub joins : Wrote (x ++ y) t at w s
   joins =
@@ -51,6 +54,16 @@ module _ {x y t v w : List ℕ} {at r s : ℕ} (short : length t ≤ most) (one 
         is = joined;
         next = let n = one .next in let m = other .next in omega (arith, length-append x y);
       }
+
+-- for a buffer of the machine: a part, or a byte, and then another part
+pub then : {x y t v w : List ℕ} {at r s : ℕ} → length t < 2 ^ 64 → Wrote x t at v r → Wrote y v r w s → Wrote (x ++ y) t at w s
+then short one other = joins (omega arith) one other
+
+pub byte-then : {byte : ℕ} {y t v w : List ℕ} {at r s : ℕ} → length t < 2 ^ 64 → Wrote (byte ∷ []) t at v r → Wrote y v r w s
+    → Wrote (byte ∷ y) t at w s
+byte-then short one other = then short one other
+
+-- ---- a loop
 
 -- the code stands at t and `at`, and whatever writes `rest` from here has written `whole` from t₀ and at₀
 pub record Left (rest t : List ℕ) (at : ℕ) (whole t₀ : List ℕ) (at₀ : ℕ) : Type 0 where
@@ -61,6 +74,10 @@ pub record Left (rest t : List ℕ) (at : ℕ) (whole t₀ : List ℕ) (at₀ : 
 
 pub begins : (whole : List ℕ) {t : List ℕ} {at : ℕ} → length t ≤ most → at ≤ most → Left whole t at whole t at
 begins whole short low = record { short = short; low = low; kept = refl; leads = λ w s k. k }
+
+-- the same for a buffer and a place of the machine
+pub all-left : (whole t : List ℕ) (at : ℕ) → length t < 2 ^ 64 → at < 2 ^ 64 → Left whole t at whole t at
+all-left whole t at short low = begins whole (omega arith) (omega arith)
 
 -- the rest is another list, which is the same
 pub turns : {rest other t whole t₀ : List ℕ} {at at₀ : ℕ} → other ≡ rest → Left other t at whole t₀ at₀ → Left rest t at whole t₀ at₀

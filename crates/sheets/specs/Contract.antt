@@ -1,6 +1,6 @@
 -- What the contracts say of lent buffers.
-use Prim.Native.Nat.{ℕ, _+_, _-_, _/_, _^_, _<_, min}
-use mathlib.Core.Bool.{cond}
+use Prim.Native.Nat.{ℕ, _+_, _-_, _/_, _^_, _≤_, _<_, min}
+use mathlib.Core.Bool.{true, false, cond}
 use mathlib.Core.List.{List, _++_}
 use mathlib.Core.Option.{Option, none, some}
 use mathlib.Core.Path.{_≡_}
@@ -8,9 +8,12 @@ use lib.Dec.{leb}
 use lib.ListN.{length}
 use lib.Seq.{sets}
 use Rattle.rules.specs.Checks.{Tables, Refusal}
+use Rattle.rules.specs.Limits
+use Rattle.rules.specs.Listing.{treeLines, droppedLines}
+use Rattle.rules.specs.Questions.{rowCount}
 use Rattle.rules.specs.Run.{over}
 use Rattle.rules.specs.Sheet.{numberBytes, numberAt, textAt, tokensAt, shapesAt, statesAt, endOf, unreadable}
-use Rattle.sheets.specs.Stands.{refusalOf}
+use Rattle.sheets.specs.Stands.{refusalOf, Written, writtenOf}
 use Rattle.sheets.specs.declared.listing.Listed.{Listed}
 use Rattle.sheets.specs.declared.listing.Listed.the-variants as listed
 use Rattle.sheets.specs.declared.sections.Places.{Places}
@@ -39,6 +42,12 @@ pub record Counted (bytes : List ℕ) (s : Sections) : Type 0 where
   pub tokens-low : s .tokens < 2 ^ 30
   pub shapes-low : s .shapes < 2 ^ 30
   pub states-low : s .states < 2 ^ 30
+
+-- so many numbers have room for all that the sections claim
+pub record Room (bytes : List ℕ) (p : Places) (s : Sections) (numbers : List ℕ) : Type 0 where
+  pub placed : Placed bytes p
+  pub counted : Counted bytes s
+  pub fits : s .tokens + s .shapes + s .states ≤ length numbers
 
 -- the numbers of all tables, one behind the other, and how many each section has
 abbrev pub numbersOf : Tables → List ℕ
@@ -77,13 +86,25 @@ pub record Wrote (bytes : List ℕ) (t : List ℕ) (at : ℕ) (v : List ℕ) (r 
   pub is : v ≡ sets t at bytes
   pub next : r ≡ min (at + length bytes) most
 
--- the answer for a listing when so many bytes are lent, and what they are afterwards
+-- the lines of the first rows of each table, of as many as there are
+abbrev pub rowLines : List ℕ → ℕ → List ℕ → ℕ → List ℕ
+rowLines tree rows dropped count =
+    treeLines tree (min rows (rowCount tree)) 0 0 ++ droppedLines dropped (min count (length dropped / Limits.droppedWidth)) 0
+
+-- the answer for a listing when so many bytes are lent, what it says, and what the bytes are afterwards
 abbrev pub listedIn : List ℕ → ℕ → Listed
 listedIn lines room = cond (leb (length lines) room) (listed.Bytes (length lines)) (listed.NoRoom (min (length lines) most))
+
+abbrev pub writtenIn : List ℕ → ℕ → Written
+writtenIn lines room =
+    cond (leb (length lines) room)
+    (record { whole = true; bytes = length lines })
+    (record { whole = false; bytes = min (length lines) most })
 
 abbrev pub bytesAfter : List ℕ → List ℕ → List ℕ
 bytesAfter lines bytes = cond (leb (length lines) (length bytes)) (over lines bytes) bytes
 
 pub record Lists (lines : List ℕ) (bytes : List ℕ) (r : Listed) (after : List ℕ) : Type 0 where
   pub answer : r ≡ listedIn lines (length bytes)
+  pub says : writtenOf r ≡ writtenIn lines (length bytes)
   pub written : after ≡ bytesAfter lines bytes

@@ -1,4 +1,6 @@
--- The run's answer in the paper's numbers.
+-- The answers in the paper's numbers and values, case by case.
+use Prim.Native.Nat.{ℕ}
+use mathlib.Core.Bool.{Bool, true, false}
 use mathlib.Core.Option.{Option, none, some}
 use Rattle.rules.specs.Run.{accepted, refusedAt}
 use Rattle.rules.specs.Run as run
@@ -6,6 +8,8 @@ use Rattle.rules.specs.Checks.{Refusal}
 use Rattle.rules.specs.Sheet.{unreadable}
 use Rattle.sheets.specs.declared.sheet.Sheet.{Sheet}
 use Rattle.sheets.specs.declared.sheet.Sheet.the-variants as sheet
+use Rattle.sheets.specs.declared.listing.Listed.{Listed}
+use Rattle.sheets.specs.declared.listing.Listed.the-variants as listed
 use Rattle.sheets.specs.declared.answer.Answer.{Answer}
 use Rattle.sheets.specs.declared.answer.Answer.the-variants.{Accepted, Refused}
 
@@ -19,3 +23,12 @@ abbrev pub refusalOf : Sheet → Option Refusal
 refusalOf sheet.Refused = some (unreadable, 0)
 refusalOf (sheet.Read sections) = none
 refusalOf (sheet.NoRoom numbers) = none
+
+-- whether the lines were written, all of them, and how many bytes they have. A listing without room is no refusal: 01 has no number for it
+pub record Written : Type 0 where
+  pub whole : Bool
+  pub bytes : ℕ
+
+abbrev pub writtenOf : Listed → Written
+writtenOf (listed.Bytes count) = record { whole = true; bytes = count }
+writtenOf (listed.NoRoom count) = record { whole = false; bytes = count }

@@ -2,7 +2,7 @@
 ghost use mathlib.Core.Path.{_≡_};
 ghost use Prim.Native.Nat.{min};
 ghost use Rattle.rules.specs.Listing.{listing};
-ghost use Rattle.sheets.specs.Contract.{Wrote, Lists};
+ghost use Rattle.sheets.specs.Contract.{Wrote, rowLines, Lists};
 ghost use Rattle.sheets.specs.Stands.{answerOf};
 use crate::answer::Answer;
 use crate::lines::dropped_lines;
@@ -22,17 +22,31 @@ fn least(a: usize, b: usize) -> usize
     if a < b { a } else { b }
 }
 
+// The lines of the tree's rows and then of the dropped rows, as many of each as there are.
+fn row_lines(
+    out: &mut [u8],
+    at: usize,
+    tree: &[u32],
+    rows: usize,
+    dropped: &[u32],
+    count: usize,
+) -> usize
+    ensures { λ r. ⌜ Wrote (rowLines (now (tree .entry)) rows (now (dropped .entry)) count) (now (out .entry)) at (now (out .exit)) r ⌝ }
+{
+    let tree_rows = least(rows, tree.len() / Limits::TREE_WIDTH);
+    let next = tree_lines(out, at, tree, tree_rows);
+    let dropped_rows = least(count, dropped.len() / Limits::DROPPED_WIDTH);
+    dropped_lines(out, next, dropped, dropped_rows)
+}
+
 // The lines, as far as the buffer has room, and how many bytes they have.
 fn write(answer: Answer, tree: &[u32], dropped: &[u32], out: &mut [u8]) -> usize
     ensures { λ r. ⌜ Wrote (listing (answerOf answer) (now (tree .entry)) (now (dropped .entry))) (now (out .entry)) 0 (now (out .exit)) r ⌝ }
 {
     match answer {
         Answer::Accepted(rows, count) => {
-            let named = head(out, 0, b"ok", rows, count);
-            let tree_rows = least(rows, tree.len() / Limits::TREE_WIDTH);
-            let next = tree_lines(out, named, tree, tree_rows);
-            let dropped_rows = least(count, dropped.len() / Limits::DROPPED_WIDTH);
-            dropped_lines(out, next, dropped, dropped_rows)
+            let next = head(out, 0, b"ok", rows, count);
+            row_lines(out, next, tree, rows, dropped, count)
         }
         Answer::Refused(number, place) => head(out, 0, b"refused", number as usize, place),
     }

@@ -1,8 +1,11 @@
 // A sheet is read: its text stays where it is, and its numbers go into a lent buffer.
-ghost use Rattle.rules.specs.Sheet.{read};
-ghost use Rattle.sheets.specs.Contract.{Reads};
+ghost use mathlib.Core.Path.{_≡_};
+ghost use Rattle.rules.specs.Run.{over};
+ghost use Rattle.rules.specs.Sheet.{read, tablesOf};
+ghost use Rattle.sheets.specs.Contract.{Room, numbersOf, Reads};
 use crate::number::Bytes;
 use crate::number::numbers;
+use crate::sections::Places;
 use crate::sections::Sections;
 use crate::sections::places_of;
 use crate::sections::readable;
@@ -18,22 +21,15 @@ pub enum Sheet {
     NoRoom(usize),
 }
 
-// The tables of a sheet. Nothing is asked of its bytes, nor of the buffer's length.
-pub fn read(sheet: &[u8], table: &mut [u32]) -> Sheet
-    ensures { λ r. ⌜ Reads (read (now (sheet .entry))) (now (table .entry)) r (now (table .exit)) ⌝ }
+// The numbers of the three tables, one table behind the other, into a buffer that has room for them.
+fn fill(sheet: &[u8], places: Places, sections: Sections, table: &mut [u32])
+    requires { ⌜ Room (now sheet) places sections (now table) ⌝ }
+    ensures { λ _. ⌜ now (table .exit) ≡ over (numbersOf (tablesOf (now (sheet .entry)))) (now (table .entry)) ⌝ }
 {
-    let places = places_of(sheet);
-    if !readable(sheet, places) {
-        return Sheet::Refused;
-    }
-    let sections = sections_of(sheet, places);
     let tokens: usize = 0;
     let shapes = tokens + sections.tokens;
     let states = shapes + sections.shapes;
     let end = states + sections.states;
-    if table.len() < end {
-        return Sheet::NoRoom(end);
-    }
     numbers(
         sheet,
         places.tokens + Bytes::NUMBER,
@@ -49,5 +45,22 @@ pub fn read(sheet: &[u8], table: &mut [u32]) -> Sheet
         places.states + Bytes::NUMBER,
         &mut table[states..end],
     );
+}
+
+// The tables of a sheet. Nothing is asked of its bytes, nor of the buffer's length.
+pub fn read(sheet: &[u8], table: &mut [u32]) -> Sheet
+    ensures { λ r. ⌜ Reads (read (now (sheet .entry))) (now (table .entry)) r (now (table .exit)) ⌝ }
+{
+    let places = places_of(sheet);
+    if !readable(sheet, places) {
+        return Sheet::Refused;
+    }
+    let sections = sections_of(sheet, places);
+    let before_states = sections.tokens + sections.shapes;
+    let needed = before_states + sections.states;
+    if table.len() < needed {
+        return Sheet::NoRoom(needed);
+    }
+    fill(sheet, places, sections, table);
     Sheet::Read(sections)
 }

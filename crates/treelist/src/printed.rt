@@ -38,7 +38,8 @@ fn run_sheet(
     dropped: &mut [u32],
 ) -> Answer
     requires { ⌜ Told (now sheet) (tablesOf (now sheet)) sections (now table) ⌝ }
-    ensures { λ r. ⌜ run (tablesOf (now (sheet .entry))) (now (tree .entry)) (now (dropped .entry)) ≡ record { answer = answerOf r; tree = now (tree .exit); dropped = now (dropped .exit) } ⌝ }
+    ensures { λ r. ⌜ run (tablesOf (now (sheet .entry))) (now (tree .entry)) (now (dropped .entry))
+        ≡ record { answer = answerOf r; tree = now (tree .exit); dropped = now (dropped .exit) } ⌝ }
     ensures { λ r. ⌜ InWords (answerOf r) ⌝ }
 {
     let text = Sections::TEXT_BYTES;
@@ -79,7 +80,8 @@ pub fn print(
     out: &mut [u8],
 ) -> usize
     requires { ⌜ (mostNumbers ≤ length (now table)) × Small (now tree) (now dropped) (now out) ⌝ }
-    ensures { λ r. ⌜ Prints (printedOf (now (tree .entry)) (now (dropped .entry)) (read (now (sheet .entry)))) (now (out .entry)) r (now (out .exit)) ⌝ }
+    ensures { λ r. ⌜ Prints (printedOf (now (tree .entry)) (now (dropped .entry)) (read (now (sheet .entry))))
+        (now (out .entry)) r (now (out .exit)) ⌝ }
 {
     let found = read(sheet, table);
     match found {

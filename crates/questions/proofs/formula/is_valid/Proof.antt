@@ -1,48 +1,32 @@
--- `is_valid` meets its contract: one pair of delimiters is asked after the other. Assumes nothing.
-use mathlib.Core.Path.{sym, _∙_}
+-- `is_valid` meets its contract: one pair of delimiters is asked after the other, as the rule does. Assumes nothing.
+use Prim.Native.Nat.{ℕ}
+use mathlib.Core.Bool.{Bool}
+use mathlib.Core.List.{List}
+use mathlib.Core.Option.{Option}
+use mathlib.Core.Path.{_≡_}
 use borrow.Author.Needs.{needs}
-use Rattle.rules.specs.Questions.{matched}
+use Rattle.rules.specs.Questions.{leafAt, firstToken, lastToken, matched, isValid}
+use Rattle.questions.proofs.Tests.{first-yes, later-yes, or-rest}
 use Rattle.questions.proofs.formula.is_valid.Statement.{statement}
 use Rattle.questions.proofs.formula.is_valid.Tie as tie
 
-returns : tie.Need-returns
-unfolding matched
-returns c = rw (← c .before .before .before .before .first-token .ensures, ← c .before .before .before .last-token .ensures, sym (c .before .dollars .ensures) ∙ c .if1 .taken)
+-- the rule's tokens are those that were found
+of-tokens : (text tree : List ℕ) (row : ℕ) {first last : Option ℕ} {answer : Bool} → first ≡ firstToken tree row → last ≡ lastToken tree row
+    → answer ≡ matched text (leafAt tree first) (leafAt tree last) → answer ≡ isValid text tree row
+of-tokens text tree row first-is last-is asked = rw (← first-is, ← last-is) asked
 
-returns-2 : tie.Need-returns-2
-unfolding matched
-returns-2 c = rw (← c .before .before .before .before .before .before .before .first-token .ensures, ← c .before .before .before .before .before .before .last-token .ensures, sym (c .before .before .before .before .dollars .ensures) ∙ c .before .before .before .if1 .left, sym (c .before .dollars2 .ensures) ∙ c .if2 .taken)
-
-returns-3 : tie.Need-returns-3
-unfolding matched
-returns-3 c =
-    rw
-    (← c .before .before .before .before .before .before .before .before .before .before .before .first-token .ensures, ← c .before .before .before .before .before .before .before .before .before .before .last-token .ensures, sym (c .before .before .before .before .before .before .before .before .dollars .ensures) ∙ c .before .before .before .before .before .before .before .if1 .left, sym (c .before .before .before .before .before .dollars2 .ensures) ∙ c .before .before .before .before .if2 .left, sym (c .before .math .ensures) ∙ c .if3 .taken)
-
-returns-4 : tie.Need-returns-4
-unfolding matched
-returns-4 c =
-    rw
-    (← c .before .before .before .before .before .before .before .before .before .before .before .before .before .before .first-token .ensures, ← c .before .before .before .before .before .before .before .before .before .before .before .before .before .last-token .ensures, sym (c .before .before .before .before .before .before .before .before .before .before .before .dollars .ensures) ∙ c .before .before .before .before .before .before .before .before .before .before .if1 .left, sym (c .before .before .before .before .before .before .before .before .dollars2 .ensures) ∙ c .before .before .before .before .before .before .before .if2 .left, sym (c .before .before .before .before .math .ensures) ∙ c .before .before .before .if3 .left)
-    (c .math2 .ensures)
+ruleset pairs = (of-tokens, first-yes, later-yes, or-rest)
 
 pub is-valid-spec : {M : Type 1} → statement M
+unfolding matched
 is-valid-spec =
     tie.close
     (tie.spec
-    (λ c κs. search needs)
-    (λ c κs. search needs)
-    (λ c. search needs)
-    (λ c κs. search needs)
-    returns
-    (λ c. search needs)
-    (λ c κs. search needs)
-    returns-2
-    (λ c. search needs)
-    (λ c. search needs)
-    (λ c κs. search needs)
-    returns-3
-    (λ c. search needs)
-    (λ c. search needs)
-    (λ c κs. search needs)
-    returns-4)
+    (λ c. search needs) (λ c. search needs) (λ c. search needs) (λ c. search needs)
+    (λ c. search pairs)
+    (λ c. search needs) (λ c. search needs)
+    (λ c. search pairs)
+    (λ c. search needs) (λ c. search needs) (λ c. search needs)
+    (λ c. search pairs)
+    (λ c. search needs) (λ c. search needs) (λ c. search needs)
+    (λ c. search pairs))

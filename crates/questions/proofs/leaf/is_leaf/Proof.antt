@@ -1,21 +1,25 @@
 -- `is_leaf` meets its contract: its tests are the rule's, and a row that has a tag is there. Assumes nothing.
-use mathlib.Core.Path.{sym, _∙_}
+use Prim.Native.Nat.{ℕ, _+_}
+use mathlib.Core.Bool.{Bool, true}
+use mathlib.Core.List.{List}
+use mathlib.Core.Path.{_≡_}
 use borrow.Author.Needs.{needs}
-use Rattle.rules.specs.Questions.{isLeaf}
-use Rattle.rules.proofs.Questions.{tagged-there}
+use lib.Dec.{leb}
+use lib.ListN.{length}
+use Rattle.rules.specs.Flat.{tagLeaf}
+use Rattle.rules.specs.Questions.{rangeAt, tagged, isLeaf}
+use Rattle.questions.specs.Stands.{rangeOf}
+use Rattle.questions.specs.declared.leaf.LeafRange.{LeafRange}
+use Rattle.questions.proofs.Tagged.{there}
+use Rattle.questions.proofs.Tests.{told, first-no}
 use Rattle.questions.proofs.leaf.is_leaf.Statement.{statement}
 use Rattle.questions.proofs.leaf.is_leaf.Tie as tie
 
-range-at-requires : tie.Need-range-at-requires
-range-at-requires c κs = tagged-there _ _ _ (sym (c .before .tagged .ensures) ∙ c .if1 .taken)
-
-returns : tie.Need-returns
+inside : (text tree : List ℕ) (row : ℕ) {leaf : Bool} {r : LeafRange} → leaf ≡ tagged tagLeaf tree row → leaf ≡ true → rangeOf r ≡ rangeAt tree row
+    → leb (r .start + r .size) (length text) ≡ isLeaf text tree row
 unfolding isLeaf
-returns c = rw (sym (c .before .before .tagged .ensures) ∙ c .before .if1 .taken, ← c .range-at .ensures .0)
-
-returns-2 : tie.Need-returns-2
-unfolding isLeaf
-returns-2 c = rw (sym (c .before .tagged .ensures) ∙ c .if1 .left)
+inside text tree row is known here = rw (told is known, ← here)
 
 pub is-leaf-spec : {M : Type 1} → statement M
-is-leaf-spec = tie.close (tie.spec (λ c κs. search needs) range-at-requires (λ c. search needs) returns returns-2)
+unfolding isLeaf
+is-leaf-spec = tie.close (tie.spec (λ c. search needs) (λ c κs. search there) (λ c. search needs) (λ c. search inside) (λ c. search first-no))

@@ -1,7 +1,7 @@
 -- `leaf_text` meets its contract: a leaf's range lies in the text, and the part that is cut out there is its text, in its place. Assumes nothing.
+use Prim.Native.Nat.{ℕ, _+_, _-_, _≤_}
 use mathlib.Core.List.{List}
 use mathlib.Core.Path.{_≡_, ap}
-use Prim.Native.Nat.{ℕ, _+_, _-_, _≤_}
 use borrow.Author.Needs.{needs}
 use native.Mathlib.Omega.{arith}
 use lib.ListN.{length}
@@ -18,15 +18,13 @@ inside text tree row e = omega (arith, range-inside text tree row, ap (λ (q : R
 add-to : tie.Need-add-to
 add-to c = let fits = inside _ _ _ (c .before .leaf-range .ensures) in omega arith
 
-part-result-end : tie.Need-part-result-end
-part-result-end c = let fits = inside _ _ _ (c .before .leaf-range .ensures) in omega arith
-
 returns : tie.Need-returns
 unfolding leafText
 returns c =
     let range = c .before .before .leaf-range .result in
+    let is = c .before .before .leaf-range .ensures in
     let whole : range .start + range .size - range .start ≡ range .size = omega arith in
-    record { is = rw (whole, ← c .before .before .leaf-range .ensures); place = rw (← c .before .before .leaf-range .ensures) }
+    record { is = rw (whole, ← is); place = rw (← is) }
 
 pub leaf-text-spec : {M : Type 1} → statement M
-leaf-text-spec = tie.close (tie.spec (λ c κs. search needs) add-to (λ c. search needs) (λ c. search needs) part-result-end returns)
+leaf-text-spec = tie.close (tie.spec (λ c. search needs) add-to (λ c. search needs) (λ c. search needs) (λ c. search inside) returns)

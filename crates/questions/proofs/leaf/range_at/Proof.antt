@@ -9,4 +9,4 @@ unfolding rangeAt
 returns c = (rw (c .before .cell .ensures, c .cell2 .ensures), search needs, search needs)
 
 pub range-at-spec : {M : Type 1} → statement M
-range-at-spec = tie.close (tie.spec (λ c κs. search needs) (λ c. search needs) (λ c κs. search needs) (λ c. search needs) returns)
+range-at-spec = tie.close (tie.spec (λ c. search needs) (λ c. search needs) (λ c. search needs) (λ c. search needs) returns)

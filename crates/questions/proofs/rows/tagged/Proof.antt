@@ -14,4 +14,4 @@ unfolding tagged
 returns-2 c = rw (le-ltb _ _ (c .if1 .left))
 
 pub tagged-spec : {M : Type 1} → statement M
-tagged-spec = tie.close (tie.spec (λ c κs. search needs) returns returns-2)
+tagged-spec = tie.close (tie.spec (λ c. search needs) returns returns-2)

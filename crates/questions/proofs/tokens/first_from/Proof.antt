@@ -1,8 +1,12 @@
 -- `first_from` meets its contract. The loop's invariant: from `at` on the first token is the one from the start on. Assumes nothing.
+use Prim.Native.Nat.{ℕ, _+_, _-_, _≤_, _<_}
+use mathlib.Core.List.{List}
+use mathlib.Core.Option.{Option, none, some}
 use mathlib.Core.Path.{_≡_, refl, sym, _∙_}
-use Prim.Native.Nat.{_-_, _≤_}
 use borrow.Author.Needs.{needs}
-use Rattle.rules.specs.Questions.{firstFrom}
+use native.Mathlib.Omega.{arith}
+use Rattle.rules.specs.Flat.{tagStart, tagLeaf}
+use Rattle.rules.specs.Questions.{tagAt, firstFrom}
 use Rattle.rules.proofs.Questions.{first-next, first-end, descend-leaf, descend-none, descend-into}
 use Rattle.questions.proofs.tokens.first_from.Statement.{statement}
 use Rattle.questions.proofs.tokens.first_from.Tie as tie
@@ -13,20 +17,22 @@ Inv-loop tree from to at₀ at = (at ≤ to) × (firstFrom tree (to - from) from
 abbrev μ-loop : tie.MeasureT-loop
 μ-loop tree from to at₀ at = to - at
 
-loop-holds : tie.Need-loop-holds Inv-loop μ-loop
-loop-holds c = (search needs, refl)
+module _ (tree : List ℕ) (to at : ℕ) {first : Option ℕ} (so-far : first ≡ firstFrom tree (to - at) at) where
+  no-more : to ≤ at → none ≡ first
+  no-more end = sym (so-far ∙ first-end tree to at end)
 
-returns : tie.Need-returns Inv-loop μ-loop
-returns c = sym (c .before .before .before .loop .inv .1 ∙ first-next _ _ _ (c .before .cell .ensures) (c .before .before .loop-test .taken) ∙ descend-leaf _ _ _ _ (c .if1 .taken))
+  module _ {tag : ℕ} (is : tag ≡ tagAt tree at) (there : at < to) where
+    a-leaf : tag ≡ tagLeaf → some at ≡ first
+    a-leaf leaf = sym (so-far ∙ first-next tree to at is there ∙ descend-leaf _ _ _ _ leaf)
+
+    an-empty-node : (tag ≡ tagLeaf → ⊥) → (tag ≡ tagStart → ⊥) → none ≡ first
+    an-empty-node no-leaf no-start = sym (so-far ∙ first-next tree to at is there ∙ descend-none _ _ _ _ no-leaf no-start)
+
+    a-node : (tag ≡ tagLeaf → ⊥) → tag ≡ tagStart → first ≡ firstFrom tree (to - (at + 1)) (at + 1)
+    a-node no-leaf starts = so-far ∙ first-next tree to at is there ∙ descend-into _ _ _ _ no-leaf starts
 
 returns-2 : tie.Need-returns-2 Inv-loop μ-loop
-returns-2 c = sym (c .before .before .before .before .loop .inv .1 ∙ first-next _ _ _ (c .before .before .cell .ensures) (c .before .before .before .loop-test .taken) ∙ descend-none _ _ _ _ (c .before .if1 .left) (c .if2 .taken))
-
-loop-again : tie.Need-loop-again Inv-loop μ-loop
-loop-again c = (search needs, c .before .before .before .before .loop .inv .1 ∙ first-next _ _ _ (c .before .before .cell .ensures) (c .before .before .before .loop-test .taken) ∙ descend-into _ _ _ _ (c .before .if1 .left) (c .if2 .left))
-
-returns-3 : tie.Need-returns-3 Inv-loop μ-loop
-returns-3 c = sym (c .before .loop .inv .1 ∙ first-end _ _ _ (c .loop-test .left))
+returns-2 c = let no-start : c .before .before .cell .result ≡ tagStart → ⊥ = omega arith in search an-empty-node
 
 pub first-from-spec : {M : Type 1} → statement M
 first-from-spec =
@@ -34,11 +40,10 @@ first-from-spec =
     (tie.spec
     Inv-loop
     μ-loop
-    loop-holds
-    (λ c κs. search needs)
-    returns
+    (λ c. (search needs, refl))
+    (λ c. search needs)
+    (λ c. search a-leaf)
     returns-2
-    (λ c. search needs)
-    (λ c. search needs)
-    loop-again
-    returns-3)
+    (λ c. search needs) (λ c. search needs)
+    (λ c. (search needs, search a-node))
+    (λ c. search no-more))

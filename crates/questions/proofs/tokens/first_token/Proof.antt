@@ -1,28 +1,37 @@
--- `first_token` meets its contract: the finish that was found lies behind the row, and in the rows. Assumes nothing.
-use mathlib.Core.Path.{sym, ap, _∙_}
+-- `first_token` meets its contract: the rule asks for the first token of a formula that was found, and so does the code. Assumes nothing.
+use Prim.Native.Nat.{ℕ, _+_, _-_}
+use mathlib.Core.List.{List}
+use mathlib.Core.Option.{Option, none}
+use mathlib.Core.Path.{_≡_}
 use borrow.Author.Needs.{needs}
 use native.Mathlib.Omega.{arith}
-use Rattle.rules.specs.Questions.{firstToken}
-use Rattle.rules.proofs.Questions.{formula-inside}
+use Rattle.rules.specs.Questions.{formula, firstFrom, firstToken}
 use Rattle.questions.specs.Stands.{foundOf}
+use Rattle.questions.specs.declared.tokens.Found.{Found}
+use Rattle.questions.specs.declared.tokens.Found.the-variants.{At, Nothing}
+use Rattle.questions.proofs.Formulas.{behind, within}
 use Rattle.questions.proofs.tokens.first_token.Statement.{statement}
 use Rattle.questions.proofs.tokens.first_token.Tie as tie
 
-returns : tie.Need-returns
-unfolding firstToken
-returns c = rw (← c .before .before .formula .ensures, c .enum-told .given .1)
+module _ (tree : List ℕ) (row : ℕ) {found : Found} (is : foundOf found ≡ formula tree row) where
+  no-formula : found ≡ Nothing → none ≡ firstToken tree row
+  unfolding firstToken
+  no-formula here = rw (← is, here)
 
+  in-formula : (to : ℕ) → found ≡ At to → {token : Option ℕ} → token ≡ firstFrom tree (to - (row + 1)) (row + 1) → token ≡ firstToken tree row
+  unfolding firstToken
+  in-formula to here asked = rw (← is, here) asked
+
+-- the row behind the formula's is not behind its finish
 add-first-from : tie.Need-add-first-from
-add-first-from c = let inside = formula-inside _ _ (sym (c .before .before .before .formula .ensures) ∙ ap foundOf (c .before .finish .given .1)) in omega arith
-
-first-from-requires : tie.Need-first-from-requires
-first-from-requires c κs = let inside = formula-inside _ _ (sym (c .before .before .before .formula .ensures) ∙ ap foundOf (c .before .finish .given .1)) in omega arith
-
-returns-2 : tie.Need-returns-2
-unfolding firstToken
-returns-2 c = rw (← c .before .before .before .before .formula .ensures, c .before .before .finish .given .1) (c .first-from .ensures)
+add-first-from c = let bounds = behind _ _ (c .before .before .before .formula .ensures) _ (c .before .finish .given .1) in omega arith
 
 pub first-token-spec : {M : Type 1} → statement M
 first-token-spec =
     tie.close
-    (tie.spec (λ c κs. search needs) (λ c. search needs) (λ c. search needs) returns add-first-from first-from-requires returns-2)
+    (tie.spec
+    (λ c. search needs) (λ c. search needs) (λ c. search needs)
+    (λ c. search no-formula)
+    add-first-from
+    (λ c κs. search (behind, within))
+    (λ c. search in-formula))

@@ -1,8 +1,11 @@
 -- `last_before` meets its contract. The loop's invariant: before `end` the last token is the one before the end that was asked for. Assumes nothing.
+use Prim.Native.Nat.{ℕ, _-_, _≤_, _<_}
+use mathlib.Core.List.{List}
+use mathlib.Core.Option.{Option, none, some}
 use mathlib.Core.Path.{_≡_, refl, sym, _∙_}
-use Prim.Native.Nat.{_≤_}
 use borrow.Author.Needs.{needs}
-use Rattle.rules.specs.Questions.{lastBefore}
+use Rattle.rules.specs.Flat.{tagLeaf, tagFinish}
+use Rattle.rules.specs.Questions.{tagAt, lastBefore}
 use Rattle.rules.proofs.Questions.{last-next, last-end, descend-leaf, descend-none, descend-into}
 use Rattle.questions.proofs.tokens.last_before.Statement.{statement}
 use Rattle.questions.proofs.tokens.last_before.Tie as tie
@@ -13,20 +16,19 @@ Inv-loop tree to end₀ end = (end ≤ to) × (lastBefore tree to ≡ lastBefore
 abbrev μ-loop : tie.MeasureT-loop
 μ-loop tree to end₀ end = end
 
-loop-holds : tie.Need-loop-holds Inv-loop μ-loop
-loop-holds c = (search needs, refl)
+module _ (tree : List ℕ) (end : ℕ) {last : Option ℕ} (so-far : last ≡ lastBefore tree end) where
+  no-more : end ≤ 0 → none ≡ last
+  no-more none-left = sym (so-far ∙ last-end tree end none-left)
 
-returns : tie.Need-returns Inv-loop μ-loop
-returns c = sym (c .before .before .before .loop .inv .1 ∙ last-next _ _ (c .before .cell .ensures) (c .before .before .loop-test .taken) ∙ descend-leaf _ _ _ _ (c .if1 .taken))
+  module _ {tag : ℕ} (is : tag ≡ tagAt tree (end - 1)) (there : 0 < end) where
+    a-leaf : tag ≡ tagLeaf → some (end - 1) ≡ last
+    a-leaf leaf = sym (so-far ∙ last-next tree end is there ∙ descend-leaf _ _ _ _ leaf)
 
-returns-2 : tie.Need-returns-2 Inv-loop μ-loop
-returns-2 c = sym (c .before .before .before .before .loop .inv .1 ∙ last-next _ _ (c .before .before .cell .ensures) (c .before .before .before .loop-test .taken) ∙ descend-none _ _ _ _ (c .before .if1 .left) (c .if2 .taken))
+    an-empty-node : (tag ≡ tagLeaf → ⊥) → (tag ≡ tagFinish → ⊥) → none ≡ last
+    an-empty-node no-leaf no-end = sym (so-far ∙ last-next tree end is there ∙ descend-none _ _ _ _ no-leaf no-end)
 
-loop-again : tie.Need-loop-again Inv-loop μ-loop
-loop-again c = (search needs, c .before .before .before .before .loop .inv .1 ∙ last-next _ _ (c .before .before .cell .ensures) (c .before .before .before .loop-test .taken) ∙ descend-into _ _ _ _ (c .before .if1 .left) (c .if2 .left))
-
-returns-3 : tie.Need-returns-3 Inv-loop μ-loop
-returns-3 c = sym (c .before .loop .inv .1 ∙ last-end _ _ (c .loop-test .left))
+    a-node : (tag ≡ tagLeaf → ⊥) → tag ≡ tagFinish → last ≡ lastBefore tree (end - 1)
+    a-node no-leaf ends = so-far ∙ last-next tree end is there ∙ descend-into _ _ _ _ no-leaf ends
 
 pub last-before-spec : {M : Type 1} → statement M
 last-before-spec =
@@ -34,11 +36,10 @@ last-before-spec =
     (tie.spec
     Inv-loop
     μ-loop
-    loop-holds
+    (λ c. (search needs, refl))
+    (λ c. search needs) (λ c. search needs)
+    (λ c. search a-leaf)
+    (λ c. search an-empty-node)
     (λ c. search needs)
-    (λ c κs. search needs)
-    returns
-    returns-2
-    (λ c. search needs)
-    loop-again
-    returns-3)
+    (λ c. (search needs, search a-node))
+    (λ c. search no-more))

@@ -1,23 +1,27 @@
--- `last_token` meets its contract: the finish that was found lies in the rows. Assumes nothing.
-use mathlib.Core.Path.{sym, ap, _∙_}
+-- `last_token` meets its contract: the rule asks for the last token of a formula that was found, and so does the code. Assumes nothing.
+use Prim.Native.Nat.{ℕ}
+use mathlib.Core.List.{List}
+use mathlib.Core.Option.{Option, none}
+use mathlib.Core.Path.{_≡_}
 use borrow.Author.Needs.{needs}
-use native.Mathlib.Omega.{arith}
-use Rattle.rules.specs.Questions.{lastToken}
-use Rattle.rules.proofs.Questions.{formula-inside}
+use Rattle.rules.specs.Questions.{formula, lastBefore, lastToken}
 use Rattle.questions.specs.Stands.{foundOf}
+use Rattle.questions.specs.declared.tokens.Found.{Found}
+use Rattle.questions.specs.declared.tokens.Found.the-variants.{At, Nothing}
+use Rattle.questions.proofs.Formulas.{within}
 use Rattle.questions.proofs.tokens.last_token.Statement.{statement}
 use Rattle.questions.proofs.tokens.last_token.Tie as tie
 
-returns : tie.Need-returns
-unfolding lastToken
-returns c = rw (← c .before .before .formula .ensures, c .enum-told .given .1)
+module _ (tree : List ℕ) (row : ℕ) {found : Found} (is : foundOf found ≡ formula tree row) where
+  no-formula : found ≡ Nothing → none ≡ lastToken tree row
+  unfolding lastToken
+  no-formula here = rw (← is, here)
 
-last-before-requires : tie.Need-last-before-requires
-last-before-requires c κs = let inside = formula-inside _ _ (sym (c .before .before .before .formula .ensures) ∙ ap foundOf (c .before .finish .given .1)) in omega arith
-
-returns-2 : tie.Need-returns-2
-unfolding lastToken
-returns-2 c = rw (← c .before .before .before .before .formula .ensures, c .before .before .finish .given .1) (c .last-before .ensures)
+  in-formula : (to : ℕ) → found ≡ At to → {token : Option ℕ} → token ≡ lastBefore tree to → token ≡ lastToken tree row
+  unfolding lastToken
+  in-formula to here asked = rw (← is, here) asked
 
 pub last-token-spec : {M : Type 1} → statement M
-last-token-spec = tie.close (tie.spec (λ c κs. search needs) (λ c. search needs) (λ c. search needs) returns last-before-requires returns-2)
+last-token-spec =
+    tie.close
+    (tie.spec (λ c. search needs) (λ c. search needs) (λ c. search needs) (λ c. search no-formula) (λ c κs. search within) (λ c. search in-formula))

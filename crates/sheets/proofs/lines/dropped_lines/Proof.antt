@@ -1,11 +1,13 @@
 -- `dropped_lines` meets its contract. The loop's invariant: whatever writes the lines from `row` on has written them all. Assumes nothing.
-use Prim.Native.Nat.{_-_, _≤_}
-use borrow.Author.Needs.{needs}
+use Prim.Native.Nat.{ℕ, _+_, _-_, _^_, _≤_, _<_}
+use mathlib.Core.List.{List}
 use native.Mathlib.Nat.{sub-zero}
-use native.Mathlib.Omega.{arith}
-use Rattle.rules.specs.Listing.{droppedLines}
+use borrow.Author.Needs.{needs}
+use lib.ListN.{length}
+use Rattle.rules.specs.Listing.{droppedLine, droppedLines}
 use Rattle.rules.proofs.Listing.{dropped-next, dropped-end}
-use Rattle.sheets.proofs.Writing.{Left, begins, turns, goes, ends}
+use Rattle.sheets.specs.Contract.{Wrote}
+use Rattle.sheets.proofs.Writing.{Left, all-left, turns, goes, ends}
 use Rattle.sheets.proofs.lines.dropped_lines.Statement.{statement}
 use Rattle.sheets.proofs.lines.dropped_lines.Tie as tie
 
@@ -16,17 +18,18 @@ Inv-loop out₀ at dropped rows next₀ row₀ out next row =
 abbrev μ-loop : tie.MeasureT-loop
 μ-loop out₀ at dropped rows next₀ row₀ out next row = rows - row
 
-loop-holds : tie.Need-loop-holds Inv-loop μ-loop
-loop-holds c = (search needs, turns (rw (sub-zero (c .before .before .args .rows))) (begins _ (omega arith) (omega arith)))
+module _ (dropped : List ℕ) (rows : ℕ) where
+  all-rows : (out : List ℕ) (at : ℕ) → length out < 2 ^ 64 → at < 2 ^ 64
+      → Left (droppedLines dropped (rows - 0) 0) out at (droppedLines dropped rows 0) out at
+  all-rows out at short low = rw (sub-zero rows) (all-left (droppedLines dropped rows 0) out at short low)
 
-loop-again : tie.Need-loop-again Inv-loop μ-loop
-loop-again c = (search needs, goes (turns (dropped-next _ _ _ (c .before .before .before .before .loop-test .taken)) (c .before .before .before .before .before .loop .inv .1)) (c .before .before .dropped-line .ensures))
+  module _ (row : ℕ) {out whole out₀ : List ℕ} {at at₀ : ℕ} (left : Left (droppedLines dropped (rows - row) row) out at whole out₀ at₀) where
+    next-row : row < rows → {v : List ℕ} {next : ℕ} → Wrote (droppedLine dropped row) out at v next
+        → Left (droppedLines dropped (rows - (row + 1)) (row + 1)) v next whole out₀ at₀
+    next-row there put = goes (turns (dropped-next dropped rows row there) left) put
 
-same-length : tie.Need-same-length Inv-loop μ-loop
-same-length c = c .before .loop .inv .1 .kept
-
-returns : tie.Need-returns Inv-loop μ-loop
-returns c = ends (turns (dropped-end _ _ _ (c .loop-test .left)) (c .before .loop .inv .1))
+    none-left : rows ≤ row → Wrote whole out₀ at₀ out at
+    none-left end = ends (turns (dropped-end dropped rows row end) left)
 
 pub dropped-lines-spec : {M : Type 1} → statement M
 dropped-lines-spec =
@@ -34,10 +37,8 @@ dropped-lines-spec =
     (tie.spec
     Inv-loop
     μ-loop
-    loop-holds
-    (λ c κs. search needs)
+    (λ c. (search needs, search all-rows))
+    (λ c. search needs) (λ c. search needs) (λ c. search needs)
+    (λ c. (search needs, search next-row))
     (λ c. search needs)
-    (λ c. search needs)
-    loop-again
-    same-length
-    returns)
+    (λ c. search none-left))

@@ -1,53 +1,52 @@
 -- `tree_line` meets its contract: its tests are the rule's, and the numbers that it hands on are the row's. Assumes nothing.
+use Prim.Native.Nat.{ℕ, _+_, _*_, _-_, _^_, _<_}
+use mathlib.Core.List.{List}
 use mathlib.Core.Path.{_≡_, sym, _∙_}
-use Prim.Native.Nat.{_+_, _*_, _-_}
-use borrow.Author.Needs.{needs}
 use native.Mathlib.Omega.{arith}
+use borrow.Author.Needs.{needs}
+use lib.ListN.{getD}
+use Rattle.rules.specs.Flat.{tagStart, tagLeaf}
+use Rattle.rules.specs.Limits.{treeWidth}
+use Rattle.rules.specs.Listing.{decimal, line, treeLine}
+use Rattle.rules.specs.Questions.{rowCount}
+use Rattle.rules.specs.Tables.{part}
 use Rattle.rules.proofs.Listing.{start-line, leaf-line, no-line, tag-first}
-use Rattle.sheets.proofs.Writing.{begins, turns, closes, ends}
+use Rattle.sheets.specs.Contract.{Wrote}
+use Rattle.sheets.proofs.Writing.{none}
 use Rattle.sheets.proofs.lines.tree_line.Statement.{statement}
 use Rattle.sheets.proofs.lines.tree_line.Tie as tie
 
-returns : tie.Need-returns
-returns c =
-    let a = c .before .before .before .before .before .before .before .before .before .args in
-    let one : a .row * 4 + 2 - (a .row * 4 + 1) ≡ 1 = omega arith in
-    closes (turns (start-line (a .tree .now) (a .row) (a .depth) (c .before .before .before .before .before .before .before .before .before .pre) (tag-first (a .tree .now) (a .row) ∙ c .before .before .before .before .before .if1 .taken)) (begins _ (omega arith) (omega arith))) (rw one at (c .before .before .depth-line .ensures))
+module _ (tree : List ℕ) (row depth : ℕ) (there : row < rowCount tree) where
+  -- the row's first number, its kind and what follows, and how many these are
+  abbrev from : ℕ
+  from = row * treeWidth
 
-returns-2 : tie.Need-returns-2
-returns-2 c =
-    let a = c .before .before .before .before .before .before .before .before .before .before .args in
-    let three : a .row * 4 + 4 - (a .row * 4 + 1) ≡ 3 = omega arith in
-    closes (turns (leaf-line (a .tree .now) (a .row) (a .depth) (c .before .before .before .before .before .before .before .before .before .before .pre) (tag-first (a .tree .now) (a .row) ∙ c .before .before .before .before .before .if2 .taken)) (begins _ (omega arith) (omega arith))) (rw three at (c .before .before .depth-line2 .ensures))
+  abbrev Row : ℕ → List ℕ → ℕ → List ℕ → ℕ → Type 0
+  Row to out at v r = Wrote (line (decimal depth) (part tree (from + 1) (to - (from + 1)))) out at v r
 
-returns-3 : tie.Need-returns-3
-returns-3 c =
-    let a = c .before .before .before .before .before .args in
-    let first = tag-first (a .tree .now) (a .row) in
-    ends (turns (no-line (a .tree .now) (a .row) (a .depth) (c .before .before .before .before .before .pre) (λ e. c .before .if1 .left (sym first ∙ e)) (λ e. c .if2 .left (sym first ∙ e))) (begins _ (omega arith) (omega arith)))
+  a-start : getD tree from 0 ≡ tagStart → {out v : List ℕ} {at r : ℕ} → Row (from + 2) out at v r → Wrote (treeLine tree row depth) out at v r
+  a-start starts put =
+      let one : from + 2 - (from + 1) ≡ 1 = omega arith in
+      rw (start-line tree row depth there (tag-first tree row ∙ starts)) (rw one at put)
+
+  a-leaf : getD tree from 0 ≡ tagLeaf → {out v : List ℕ} {at r : ℕ} → Row (from + treeWidth) out at v r → Wrote (treeLine tree row depth) out at v r
+  a-leaf leaf put =
+      let three : from + treeWidth - (from + 1) ≡ 3 = omega arith in
+      rw (leaf-line tree row depth there (tag-first tree row ∙ leaf)) (rw three at put)
+
+  no-row : (getD tree from 0 ≡ tagStart → ⊥) → (getD tree from 0 ≡ tagLeaf → ⊥) → (out : List ℕ) (at : ℕ) → at < 2 ^ 64
+      → Wrote (treeLine tree row depth) out at out at
+  no-row no-start no-leaf out at low =
+      let first = tag-first tree row in
+      rw (no-line tree row depth there (λ is. no-start (sym first ∙ is)) (λ is. no-leaf (sym first ∙ is))) (none out at (omega arith))
 
 pub tree-line-spec : {M : Type 1} → statement M
 tree-line-spec =
     tie.close
     (tie.spec
-    (λ c. search needs)
-    (λ c. search needs)
-    (λ c. search needs)
-    (λ c. search needs)
-    (λ c. search needs)
-    (λ c. search needs)
-    (λ c. search needs)
-    (λ c. search needs)
-    (λ c. search needs)
-    (λ c. search needs)
-    (λ c κs. search needs)
-    (λ c. search needs)
-    returns
-    (λ c. search needs)
-    (λ c. search needs)
-    (λ c. search needs)
-    (λ c. search needs)
-    (λ c κs. search needs)
-    (λ c. search needs)
-    returns-2
-    returns-3)
+    (λ c. search needs) (λ c. search needs) (λ c. search needs) (λ c. search needs) (λ c. search needs) (λ c. search needs)
+    (λ c. search needs) (λ c. search needs) (λ c. search needs) (λ c. search needs) (λ c. search needs) (λ c. search needs)
+    (λ c. search a-start)
+    (λ c. search needs) (λ c. search needs) (λ c. search needs) (λ c. search needs) (λ c. search needs) (λ c. search needs)
+    (λ c. search a-leaf)
+    (λ c. search no-row))

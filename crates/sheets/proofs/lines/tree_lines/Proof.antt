@@ -1,14 +1,19 @@
--- `tree_lines` meets its contract. The loop's invariant: whatever writes the lines from `row` on, with `depth` nodes open there, has written them all;
--- no more nodes are open than rows were passed. Assumes nothing.
-use Prim.Native.Nat.{_*_, _-_, _≤_}
-use borrow.Author.Needs.{needs}
+-- `tree_lines` meets its contract. The loop's invariant: whatever writes the lines from `row` on, with `depth` nodes open there, has written them
+-- all; no more nodes are open than rows were passed. Assumes nothing.
+use Prim.Native.Nat.{ℕ, _+_, _*_, _-_, _^_, _≤_, _<_}
+use mathlib.Core.List.{List}
+use mathlib.Core.Path.{_≡_}
 use native.Mathlib.Nat.{sub-zero}
 use native.Mathlib.Omega.{arith}
-use lib.ListN.{getD}
-use Rattle.rules.specs.Listing.{treeLines}
+use borrow.Author.Needs.{needs}
+use lib.ListN.{length, getD}
+use Rattle.rules.specs.Limits.{treeWidth}
+use Rattle.rules.specs.Listing.{treeLine, treeLines}
+use Rattle.rules.specs.Questions.{openAfter}
 use Rattle.rules.proofs.Listing.{tree-next, tree-end, tag-first}
 use Rattle.rules.proofs.Questions.{open-after-most}
-use Rattle.sheets.proofs.Writing.{Left, begins, turns, goes, ends}
+use Rattle.sheets.specs.Contract.{Wrote}
+use Rattle.sheets.proofs.Writing.{Left, all-left, turns, goes, ends}
 use Rattle.sheets.proofs.lines.tree_lines.Statement.{statement}
 use Rattle.sheets.proofs.lines.tree_lines.Tie as tie
 
@@ -19,22 +24,22 @@ Inv-loop out₀ at tree rows next₀ depth₀ row₀ out next depth row =
 abbrev μ-loop : tie.MeasureT-loop
 μ-loop out₀ at tree rows next₀ depth₀ row₀ out next depth row = rows - row
 
-loop-holds : tie.Need-loop-holds Inv-loop μ-loop
-loop-holds c = (search needs, search needs, turns (rw (sub-zero (c .before .before .args .rows))) (begins _ (omega arith) (omega arith)))
+module _ (tree : List ℕ) (rows : ℕ) where
+  all-rows : (out : List ℕ) (at : ℕ) → length out < 2 ^ 64 → at < 2 ^ 64
+      → Left (treeLines tree (rows - 0) 0 0) out at (treeLines tree rows 0 0) out at
+  all-rows out at short low = rw (sub-zero rows) (all-left (treeLines tree rows 0 0) out at short low)
 
-loop-again : tie.Need-loop-again Inv-loop μ-loop
-loop-again c =
-    let tree = c .before .before .before .before .before .before .before .before .before .before .args .tree .now in
-    let row = c .before .before .before .before .before .before .before .loop .row in
-    let deep = c .depth-after .ensures in
-    let most = open-after-most (getD tree (row * 4) 0) (c .before .before .before .before .before .before .before .loop .depth) in
-    (search needs, omega arith, turns (rw (deep, tag-first tree row)) (goes (turns (tree-next tree _ row (c .before .before .before .before .before .before .before .loop .depth) (c .before .before .before .before .before .before .loop-test .taken)) (c .before .before .before .before .before .before .before .loop .inv .2)) (c .before .before .before .before .tree-line .ensures)))
+  module _ (row depth : ℕ) {out whole out₀ : List ℕ} {at at₀ : ℕ} (left : Left (treeLines tree (rows - row) row depth) out at whole out₀ at₀) where
+    next-row : row < rows → {v : List ℕ} {next after : ℕ} → Wrote (treeLine tree row depth) out at v next
+        → after ≡ openAfter (getD tree (row * treeWidth) 0) depth → Left (treeLines tree (rows - (row + 1)) (row + 1) after) v next whole out₀ at₀
+    next-row there put opens = rw (opens, ← tag-first tree row) (goes (turns (tree-next tree rows row depth there) left) put)
 
-same-length : tie.Need-same-length Inv-loop μ-loop
-same-length c = c .before .loop .inv .2 .kept
+    none-left : rows ≤ row → Wrote whole out₀ at₀ out at
+    none-left end = ends (turns (tree-end tree rows row depth end) left)
 
-returns : tie.Need-returns Inv-loop μ-loop
-returns c = ends (turns (tree-end _ _ _ _ (c .loop-test .left)) (c .before .loop .inv .2))
+-- a row opens one node at most
+one-more : (tag depth row : ℕ) {after : ℕ} → after ≡ openAfter tag depth → depth ≤ row → after ≤ row + 1
+one-more tag depth row opens few = omega (arith, open-after-most tag depth)
 
 pub tree-lines-spec : {M : Type 1} → statement M
 tree-lines-spec =
@@ -42,14 +47,9 @@ tree-lines-spec =
     (tie.spec
     Inv-loop
     μ-loop
-    loop-holds
-    (λ c κs. search needs)
+    (λ c. (search needs, search needs, search all-rows))
+    (λ c. search needs) (λ c. search needs) (λ c. search needs) (λ c. search needs) (λ c. search needs) (λ c. search needs)
     (λ c. search needs)
+    (λ c. (search needs, search one-more, search next-row))
     (λ c. search needs)
-    (λ c. search needs)
-    (λ c κs. search needs)
-    (λ c. search needs)
-    (λ c. search needs)
-    loop-again
-    same-length
-    returns)
+    (λ c. search none-left))

@@ -1,37 +1,36 @@
--- `write` meets its contract: the lines of an answer are its first line, the tree's and the dropped rows'. Assumes nothing.
-use native.Mathlib.Omega.{arith}
-use Rattle.rules.specs.Listing.{listing}
-use Rattle.sheets.proofs.Writing.{begins, goes, closes}
+-- `write` meets its contract: the lines of an answer are its first line and those of the rows. Assumes nothing.
+use Prim.Native.Nat.{ℕ, _^_, _<_}
+use mathlib.Core.List.{List, [], _∷_}
+use mathlib.Core.Path.{_≡_}
 use borrow.Author.Needs.{needs}
+use lib.ListN.{length}
+use Rattle.rules.specs.Listing.{wordOk, wordRefused, line, listing}
+use Rattle.sheets.specs.Contract.{Wrote, rowLines}
+use Rattle.sheets.specs.Stands.{answerOf}
+use Rattle.sheets.specs.declared.answer.Answer.{Answer}
+use Rattle.sheets.specs.declared.answer.Answer.the-variants.{Accepted, Refused}
+use Rattle.sheets.proofs.Writing.{then}
 use Rattle.sheets.proofs.listing.write.Statement.{statement}
 use Rattle.sheets.proofs.listing.write.Tie as tie
 
-returns : tie.Need-returns
-unfolding listing
-returns c =
-    rw (c .before .before .before .before .before .before .before .before .before .before .before .before .before .before .before .before .answer .given .1)
-    (closes (goes (goes (begins _ (omega arith) (omega arith)) (c .before .before .before .before .before .before .before .before .before .before .before .before .head .ensures)) (rw (c .before .before .before .before .before .before .before .before .before .least .ensures) at (c .before .before .before .before .before .before .before .tree-lines .ensures))) (rw (c .before .before .before .before .least2 .ensures) at (c .before .before .dropped-lines .ensures)))
+module _ (tree dropped : List ℕ) {answer : Answer} {out all : List ℕ} {at end : ℕ} where
+  accepted-lines : (rows count : ℕ) {named : List ℕ} {next : ℕ} → answer ≡ Accepted rows count → length out < 2 ^ 64
+      → Wrote (line wordOk (rows ∷ count ∷ [])) out at named next → Wrote (rowLines tree rows dropped count) named next all end
+      → Wrote (listing (answerOf answer) tree dropped) out at all end
+  unfolding listing
+  accepted-lines rows count is short head-put rows-put = rw is (then short head-put rows-put)
 
-returns-2 : tie.Need-returns-2
-unfolding listing
-returns-2 c = rw (c .before .before .before .before .before .before .answer2 .given .1) (c .before .before .head2 .ensures)
+  refused-line : (number place : ℕ) → answer ≡ Refused number place → Wrote (line wordRefused (number ∷ place ∷ [])) out at all end
+      → Wrote (listing (answerOf answer) tree dropped) out at all end
+  unfolding listing
+  refused-line number place is put = rw is put
 
 pub write-spec : {M : Type 1} → statement M
 write-spec =
     tie.close
     (tie.spec
+    (λ c. search needs) (λ c. search needs) (λ c. search needs) (λ c. search needs) (λ c. search needs) (λ c. search needs)
+    (λ c. search needs) (λ c. search needs) (λ c. search needs)
+    (λ c. search accepted-lines)
     (λ c. search needs)
-    (λ c. search needs)
-    (λ c κs. search needs)
-    (λ c κs. search needs)
-    (λ c κs. search needs)
-    (λ c κs. search needs)
-    (λ c κs. search needs)
-    (λ c. search needs)
-    (λ c. search needs)
-    (λ c. search needs)
-    (λ c κs. search needs)
-    (λ c. search needs)
-    returns
-    (λ c. search needs)
-    returns-2)
+    (λ c. search refused-line))

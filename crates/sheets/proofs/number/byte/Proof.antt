@@ -1,7 +1,7 @@
 -- `byte` meets its contract: it reads inside the sheet, and past its end the list's default is 0. Assumes nothing.
 use mathlib.Core.Path.{refl, sym}
-use borrow.Author.Needs.{needs}
 use native.Mathlib.Omega.{arith}
+use borrow.Author.Needs.{needs}
 use lib.ListN.{List·getD-eq-default}
 use Rattle.sheets.proofs.number.byte.Statement.{statement}
 use Rattle.sheets.proofs.number.byte.Tie as tie

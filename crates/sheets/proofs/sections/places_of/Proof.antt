@@ -1,27 +1,26 @@
 -- `places_of` meets its contract: each place is the end of the section before, and four sections of 32 bits stay below 40. Assumes nothing.
+use Prim.Native.Nat.{ℕ}
+use mathlib.Core.List.{List}
 use mathlib.Core.Path.{_≡_, ap, _∙_}
 use borrow.Author.Needs.{needs}
-use Rattle.rules.specs.Sheet.{endOf, shapesAt, statesAt}
+use Rattle.rules.specs.Sheet.{endOf, tokensAt, shapesAt, statesAt}
 use Rattle.sheets.proofs.sections.places_of.Statement.{statement}
 use Rattle.sheets.proofs.sections.places_of.Tie as tie
 
-returns : tie.Need-returns
-returns c =
-    let sheet = c .before .before .before .before .before .args .sheet .now in
-    let tokens = c .before .before .before .end-of .ensures .0 in
-    let shapes : c .before .before .end-of2 .result ≡ shapesAt sheet = c .before .before .end-of2 .ensures .0 ∙ ap (endOf sheet) tokens in
-    let states : c .before .end-of3 .result ≡ statesAt sheet = c .before .end-of3 .ensures .0 ∙ ap (endOf sheet) shapes in
-    record {
-      tokens = tokens;
-      shapes = shapes;
-      states = states;
-      end = c .end-of4 .ensures .0 ∙ ap (endOf sheet) states;
-      tokens-low = search needs;
-      shapes-low = search needs;
-      states-low = search needs;
-    }
+module _ (sheet : List ℕ) {tokens shapes : ℕ} (one : tokens ≡ tokensAt sheet) (two : shapes ≡ endOf sheet tokens) where
+  shapes-at : shapes ≡ shapesAt sheet
+  shapes-at = two ∙ ap (endOf sheet) one
+
+  module _ {states : ℕ} (three : states ≡ endOf sheet shapes) where
+    states-at : states ≡ statesAt sheet
+    states-at = three ∙ ap (endOf sheet) shapes-at
+
+    end-at : {end : ℕ} → end ≡ endOf sheet states → end ≡ endOf sheet (statesAt sheet)
+    end-at four = four ∙ ap (endOf sheet) states-at
+
+ruleset places = (shapes-at, states-at, end-at, needs)
 
 pub places-of-spec : {M : Type 1} → statement M
 places-of-spec =
     tie.close
-    (tie.spec (λ c κs. search needs) (λ c κs. search needs) (λ c κs. search needs) (λ c κs. search needs) returns)
+    (tie.spec (λ c. search needs) (λ c. search needs) (λ c. search needs) (λ c. search needs) (λ c. search places))

@@ -1,57 +1,75 @@
--- `readable` meets its contract: its tests are the rule's, in its order. Assumes nothing.
-use borrow.Author.Needs.{needs}
-use borrow.Author.Tests.{le-leb, lt-leb, eq-eqb, ne-eqb}
-use Prim.Native.Nat.{ℕ}
-use mathlib.Core.Bool.{Bool}
+-- `readable` meets its contract: its tests are the rule's. A no to one of them is a no to the whole, and a yes to all leaves the last.
+-- Assumes nothing.
+use Prim.Native.Nat.{ℕ, _≤_, _<_}
+use mathlib.Core.Bool.{Bool, true, false, not, and-false}
 use mathlib.Core.List.{List}
 use mathlib.Core.Path.{_≡_, ap, _∙_}
-use Rattle.rules.specs.Sheet.{readable, wholeNumbers}
+use native.Mathlib.Omega.{arith}
+use borrow.Author.Needs.{needs}
+use borrow.Author.Tests.{le-leb, lt-leb, eq-eqb, ne-eqb}
+use lib.ListN.{length, getD}
+use Rattle.rules.specs.Sheet.{mostBytes, version, tokensAt, shapesAt, statesAt, endOf, readable, wholeNumbers}
 use Rattle.rules.proofs.Asked.{missed, met}
 use Rattle.sheets.proofs.sections.readable.Statement.{statement}
 use Rattle.sheets.proofs.sections.readable.Tie as tie
 
--- an answer at a place is one at the rule's place
-placed : (sheet : List ℕ) {answer : Bool} {p q : ℕ} → answer ≡ wholeNumbers sheet p → p ≡ q → answer ≡ wholeNumbers sheet q
-placed sheet e same = e ∙ ap (wholeNumbers sheet) same
+module _ (sheet : List ℕ) where
+  -- ---- a no
+  too-long : mostBytes < length sheet → false ≡ readable sheet
+  unfolding readable
+  too-long over = rw (lt-leb (length sheet) mostBytes over)
 
-returns : tie.Need-returns
-unfolding readable
-returns c = rw (lt-leb _ _ (c .if1 .taken))
+  other-version : (getD sheet 0 0 ≡ version → ⊥) → false ≡ readable sheet
+  unfolding readable
+  other-version other = simp (ne-eqb (getD sheet 0 0) version other, and-false)
 
-returns-2 : tie.Need-returns-2
-unfolding readable
-returns-2 c = rw (le-leb _ _ (c .before .before .if1 .left), ← c .before .byte .ensures .0, ne-eqb _ _ (c .if2 .taken))
+  other-end : (endOf sheet (statesAt sheet) ≡ length sheet → ⊥) → false ≡ readable sheet
+  unfolding readable
+  other-end other = simp (ne-eqb (endOf sheet (statesAt sheet)) (length sheet) other, and-false)
 
-returns-3 : tie.Need-returns-3
-unfolding readable
-returns-3 c = rw (le-leb _ _ (c .before .before .before .before .if1 .left), ← c .before .before .before .byte .ensures .0, eq-eqb _ _ (c .before .before .if2 .left), ← c .before .before .before .before .before .before .pre .end, ne-eqb _ _ (c .if3 .taken))
+  -- what was answered of a table at a place
+  module _ {answer : Bool} {at : ℕ} (is : answer ≡ wholeNumbers sheet at) where
+    whole-at : {place : ℕ} → at ≡ place → answer ≡ wholeNumbers sheet place
+    whole-at here = is ∙ ap (wholeNumbers sheet) here
 
-returns-4 : tie.Need-returns-4
-unfolding readable
-returns-4 c =
-    rw (le-leb _ _ (c .before .before .before .before .before .before .if1 .left), ← c .before .before .before .before .before .byte .ensures .0, eq-eqb _ _ (c .before .before .before .before .if2 .left), ← c .before .before .before .before .before .before .before .before .pre .end, eq-eqb _ _ (c .before .before .if3 .left), missed (placed _ (c .before .whole-numbers .ensures) (c .before .before .before .before .before .before .before .before .pre .tokens)) (c .if4 .taken))
+    broken-tokens : at ≡ tokensAt sheet → not answer ≡ true → false ≡ readable sheet
+    unfolding readable
+    broken-tokens here no-whole = simp (missed (whole-at here) no-whole, and-false)
 
-returns-5 : tie.Need-returns-5
-unfolding readable
-returns-5 c =
-    rw (le-leb _ _ (c .before .before .before .before .before .before .before .before .if1 .left), ← c .before .before .before .before .before .before .before .byte .ensures .0, eq-eqb _ _ (c .before .before .before .before .before .before .if2 .left), ← c .before .before .before .before .before .before .before .before .before .before .pre .end, eq-eqb _ _ (c .before .before .before .before .if3 .left), met (placed _ (c .before .before .before .whole-numbers .ensures) (c .before .before .before .before .before .before .before .before .before .before .pre .tokens)) (c .before .before .if4 .left), missed (placed _ (c .before .whole-numbers2 .ensures) (c .before .before .before .before .before .before .before .before .before .before .pre .shapes)) (c .if5 .taken))
+    broken-shapes : at ≡ shapesAt sheet → not answer ≡ true → false ≡ readable sheet
+    unfolding readable
+    broken-shapes here no-whole = simp (missed (whole-at here) no-whole, and-false)
 
-returns-6 : tie.Need-returns-6
-unfolding readable
-returns-6 c =
-    rw (le-leb _ _ (c .before .before .before .before .before .before .before .before .before .if1 .left), ← c .before .before .before .before .before .before .before .before .byte .ensures .0, eq-eqb _ _ (c .before .before .before .before .before .before .before .if2 .left), ← c .before .before .before .before .before .before .before .before .before .before .before .pre .end, eq-eqb _ _ (c .before .before .before .before .before .if3 .left), met (placed _ (c .before .before .before .before .whole-numbers .ensures) (c .before .before .before .before .before .before .before .before .before .before .before .pre .tokens)) (c .before .before .before .if4 .left), met (placed _ (c .before .before .whole-numbers2 .ensures) (c .before .before .before .before .before .before .before .before .before .before .before .pre .shapes)) (c .before .if5 .left)) (placed _ (c .whole-numbers3 .ensures) (c .before .before .before .before .before .before .before .before .before .before .before .pre .states))
+  -- ---- a yes to all
+  module _ (short : length sheet ≤ mostBytes) {first : ℕ} (first-is : first ≡ getD sheet 0 0) (this : first ≡ version)
+      {end : ℕ} (end-is : end ≡ endOf sheet (statesAt sheet)) (there : end ≡ length sheet) where
+    last-asked : {tokens shapes states : Bool} {t s u : ℕ} → tokens ≡ wholeNumbers sheet t → t ≡ tokensAt sheet → not tokens ≡ false
+        → shapes ≡ wholeNumbers sheet s → s ≡ shapesAt sheet → not shapes ≡ false
+        → states ≡ wholeNumbers sheet u → u ≡ statesAt sheet → states ≡ readable sheet
+    unfolding readable
+    last-asked tokens-are at-tokens tokens-whole shapes-are at-shapes shapes-whole states-are at-states =
+        rw (
+          le-leb (length sheet) mostBytes short,
+          ← first-is,
+          eq-eqb first version this,
+          ← end-is,
+          eq-eqb end (length sheet) there,
+          met (whole-at tokens-are at-tokens) tokens-whole,
+          met (whole-at shapes-are at-shapes) shapes-whole,
+        )
+        (whole-at states-are at-states)
 
 pub readable-spec : {M : Type 1} → statement M
 readable-spec =
     tie.close
     (tie.spec
-    returns
-    (λ c κs. search needs)
-    returns-2
-    returns-3
-    (λ c κs. search needs)
-    returns-4
-    (λ c κs. search needs)
-    returns-5
-    (λ c κs. search needs)
-    returns-6)
+    (λ c. omega (arith, too-long))
+    (λ c. search needs)
+    (λ c. omega (arith, other-version))
+    (λ c. omega (arith, other-end))
+    (λ c. search needs)
+    (λ c. search broken-tokens)
+    (λ c. search needs)
+    (λ c. search broken-shapes)
+    (λ c. search needs)
+    (λ c. search last-asked))

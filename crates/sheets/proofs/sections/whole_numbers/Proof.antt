@@ -7,4 +7,4 @@ returns : tie.Need-returns
 returns c = rw (c .number .ensures .0)
 
 pub whole-numbers-spec : {M : Type 1} → statement M
-whole-numbers-spec = tie.close (tie.spec (λ c κs. search needs) returns)
+whole-numbers-spec = tie.close (tie.spec (λ c. search needs) returns)

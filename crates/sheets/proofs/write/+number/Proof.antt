@@ -1,11 +1,15 @@
 -- The proof of the cycle of calls {number}. The measure is the number: what stands before its last digit is less. Assumes nothing.
-use Prim.Native.Nat.{ℕ, _<_}
+use Prim.Native.Nat.{ℕ, _/_, _%_, _^_, _≤_, _<_}
+use mathlib.Core.List.{List, [], _∷_}
 use borrow.Author.Needs.{needs}
 use borrow.Fn.Kinds.{In}
 use borrow.Fn.PlainCycle.{Measures, is, falls, and}
 use native.Mathlib.Omega.{arith}
+use lib.ListN.{length}
+use Rattle.rules.specs.Listing.{digit, decimal}
 use Rattle.rules.proofs.Listing.{decimal-low, decimal-high}
-use Rattle.sheets.proofs.Writing.{begins, turns, goes, closes}
+use Rattle.sheets.specs.Contract.{Wrote}
+use Rattle.sheets.proofs.Writing.{then}
 use Rattle.sheets.proofs.write.number.Reads as number
 use Rattle.sheets.proofs.write.number.Kinds as number-kinds
 use Rattle.sheets.proofs.write.+number.Lts-number as number-lts
@@ -13,6 +17,7 @@ use Rattle.sheets.proofs.write.put.Reads as put-reads
 use Rattle.sheets.proofs.write.+number.{statement}
 use Rattle.sheets.proofs.write.+number.Tie.{close}
 
+-- the third parameter
 abbrev μ-number : Measures 1 number-kinds.ps ℕ
 μ-number κs a = a .1 .1 .0
 
@@ -25,14 +30,13 @@ number-below t = and 1 number-kinds.ps (falls 1 number-kinds.ps _<_ μ-number t)
 abbrev claims : ℕ → number-lts.Claims
 claims t = (put-reads.Asked, put-reads.Learnt, number-below t, number.Post)
 
-number-returns : (t : ℕ) → number-lts.Need-returns (claims t) (number-at t) number.Post
-number-returns t c = closes (turns (decimal-low _ (c .before .before .before .before .if1 .taken)) (begins _ (omega arith) (omega arith))) (c .before .before .put .ensures)
+-- a number of one digit; and one whose digits but the last were written
+digit-put : (n : ℕ) → n < 10 → {out v : List ℕ} {at r : ℕ} → Wrote (digit n ∷ []) out at v r → Wrote (decimal n) out at v r
+digit-put n low put = rw (decimal-low n low) put
 
-number-number-requires : (t : ℕ) → number-lts.Need-number-requires (claims t) (number-at t) number.Post
-number-number-requires t c κs = let measure = c .before .before .before .pre .0 in (omega arith, tt)
-
-number-returns-2 : (t : ℕ) → number-lts.Need-returns-2 (claims t) (number-at t) number.Post
-number-returns-2 t c = closes (goes (turns (decimal-high _ (c .before .before .before .before .before .before .before .before .if1 .left)) (begins _ (omega arith) (omega arith))) (c .before .before .before .before .before .before .number .ensures)) (c .before .before .put2 .ensures)
+digits-put : (n : ℕ) → 10 ≤ n → {out most all : List ℕ} {at next end : ℕ} → length out < 2 ^ 64 → Wrote (decimal (n / 10)) out at most next
+    → Wrote (digit (n % 10) ∷ []) most next all end → Wrote (decimal n) out at all end
+digits-put n high short most-put last-put = rw (decimal-high n high) (then short most-put last-put)
 
 pub +number-spec : {M : Type 1} → statement M
 +number-spec =
@@ -42,14 +46,8 @@ pub +number-spec : {M : Type 1} → statement M
     (claims t)
     (number-at t)
     number.Post
-    (λ c. search needs)
-    (λ c. search needs)
-    (λ c κs. search needs)
-    (λ c. search needs)
-    (number-returns t)
-    (number-number-requires t)
-    (λ c. search needs)
-    (λ c. search needs)
-    (λ c κs. search needs)
-    (λ c. search needs)
-    (number-returns-2 t))
+    (λ c. search needs) (λ c. search needs) (λ c. search needs) (λ c. search needs)
+    (λ c. search digit-put)
+    (λ c κs. (omega arith, tt))
+    (λ c. search needs) (λ c. search needs) (λ c. search needs) (λ c. search needs)
+    (λ c. search digits-put))

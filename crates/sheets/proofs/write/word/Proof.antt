@@ -1,12 +1,14 @@
 -- `word` meets its contract. The loop's invariant: whatever writes the bytes from i on has written them all. Assumes nothing.
+use Prim.Native.Nat.{ℕ, _+_, _-_, _≤_, _<_}
+use mathlib.Core.List.{List, [], _∷_}
 use mathlib.Core.Path.{_≡_, refl}
-use Prim.Native.Nat.{_-_, _≤_, _<_}
-use borrow.Author.Needs.{needs}
 use native.Mathlib.Numerals.{add-one}
 use native.Mathlib.Omega.{arith}
-use lib.ListN.{length, drop, drop-of-length-le}
+use borrow.Author.Needs.{needs}
+use lib.ListN.{length, drop, getD, drop-of-length-le}
 use lib.Seq.{drop-cons}
-use Rattle.sheets.proofs.Writing.{Left, begins, turns, goes, ends}
+use Rattle.sheets.specs.Contract.{Wrote}
+use Rattle.sheets.proofs.Writing.{Left, all-left, turns, goes, ends}
 use Rattle.sheets.proofs.write.word.Statement.{statement}
 use Rattle.sheets.proofs.write.word.Tie as tie
 
@@ -17,21 +19,13 @@ Inv-loop out₀ at bytes next₀ i₀ i-end out next i =
 abbrev μ-loop : tie.MeasureT-loop
 μ-loop out₀ at bytes next₀ i₀ i-end out next i = i-end - i
 
-loop-holds : tie.Need-loop-holds Inv-loop μ-loop
-loop-holds c = (refl, search needs, begins _ (omega arith) (omega arith))
+module _ (bytes : List ℕ) (i : ℕ) {end : ℕ} (all : end ≡ length bytes)
+    {out whole out₀ : List ℕ} {at at₀ : ℕ} (left : Left (drop i bytes) out at whole out₀ at₀) where
+  next-byte : i < end → {v : List ℕ} {next : ℕ} → Wrote (getD bytes i 0 ∷ []) out at v next → Left (drop (i + 1) bytes) v next whole out₀ at₀
+  next-byte there put = goes (turns (rw (add-one i) (drop-cons bytes i 0 (omega arith))) left) put
 
-loop-again : tie.Need-loop-again Inv-loop μ-loop
-loop-again c =
-    let here : c .before .before .before .before .before .before .loop .i < length (c .before .before .before .before .before .before .before .before .before .args .bytes .now) = omega arith in
-    (refl, search needs, goes (turns (rw (add-one (c .before .before .before .before .before .before .loop .i)) (drop-cons (c .before .before .before .before .before .before .before .before .before .args .bytes .now) (c .before .before .before .before .before .before .loop .i) 0 here)) (c .before .before .before .before .before .before .loop .inv .2)) (c .before .before .put .ensures))
-
-same-length : tie.Need-same-length Inv-loop μ-loop
-same-length c = c .before .loop .inv .2 .kept
-
-returns : tie.Need-returns Inv-loop μ-loop
-returns c =
-    let end : length (c .before .before .before .before .args .bytes .now) ≤ c .before .loop .i = omega arith in
-    ends (turns (drop-of-length-le (c .before .before .before .before .args .bytes .now) end) (c .before .loop .inv .2))
+  none-left : end ≤ i → Wrote whole out₀ at₀ out at
+  none-left ended = let past : length bytes ≤ i = omega arith in ends (turns (drop-of-length-le bytes past) left)
 
 pub word-spec : {M : Type 1} → statement M
 word-spec =
@@ -39,11 +33,8 @@ word-spec =
     (tie.spec
     Inv-loop
     μ-loop
-    loop-holds
+    (λ c. (refl, search needs, search all-left))
+    (λ c. search needs) (λ c. search needs) (λ c. search needs) (λ c. search needs)
+    (λ c. (refl, search needs, search next-byte))
     (λ c. search needs)
-    (λ c κs. search needs)
-    (λ c. search needs)
-    (λ c. search needs)
-    loop-again
-    same-length
-    returns)
+    (λ c. search none-left))
