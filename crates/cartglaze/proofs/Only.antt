@@ -30,7 +30,7 @@ second (rules.accepted rows dropped) = dropped
 second (rules.refusedAt number place) = place
 
 -- two answers that stand for the same are the same
-same-answer : (r s : Answer) → answerOf r ≡ answerOf s → r ≡ s
+pub same-answer : (r s : Answer) → answerOf r ≡ answerOf s → r ≡ s
 same-answer (Accepted rows dropped) (Accepted n m) e =
     let one : rows ≡ n = omega (arith, ap first e) in
     let other : dropped ≡ m = omega (arith, ap second e) in
