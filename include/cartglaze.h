@@ -3,9 +3,17 @@
  *
  * Link target/staticlib/libffi.a, by that path (another library has the name libffi). `rt staticlib ffi` writes it.
  *
- * What a caller owes, of each function: a pointer with a length behind it points to so many elements that are there, aligned as their type is,
- * and is not null, even where the length is 0. What is written to (`uint32_t *`, `size_t *`) overlaps nothing else that is passed. Nothing more:
- * any bytes may stand in a sheet, and any numbers in the tables and in the rows. The contracts are proved for callers that keep to this.
+ * What a caller owes, of each function:
+ *   - A pointer with a length behind it points to so many elements that are there, aligned as their type is. It is not null, even where the length
+ *     is 0.
+ *   - A pointer to a single result (`size_t *`) is not null, and is aligned too.
+ *   - What is written to overlaps nothing else that is passed: `tree`, `dropped`, `numbers`, `out` and each single result.
+ * Nothing more: any bytes may stand in a sheet, and any numbers in the tables and in the rows. The contracts are proved for callers that keep to
+ * this.
+ *
+ * Stack: a run takes more the more nodes are open, and no more than 128 ever are. Formulas with so many were read on a thread with a stack of
+ * 448 KiB, and not on one with 4 KiB less; the thread's own start takes a part of it. That is measured, on x86-64, and not proved; `make bench`
+ * measures it again. Nothing is taken from the heap.
  *
  * Tables, all of whole rows:
  *   tokens  kind, start, length, shape (0 none, k the k-th)    at most 16,384 rows, text at most 65,535 bytes
@@ -100,8 +108,8 @@ bool cartglaze_read(const uint8_t *sheet, size_t sheet_length, uint32_t *numbers
  * tag over 2 has no line, a finish where nothing is open leaves the depth at 0, and a number of refusal over 2^32 - 1 counts for that.
  *
  * The same answer, rows and length of `out` always give the same result. */
-bool cartglaze_list(bool accepted, size_t first, size_t second, const uint32_t *tree, size_t tree_length, const uint32_t *dropped, size_t dropped_length,
-                    uint8_t *out, size_t out_length, size_t *length);
+bool cartglaze_list(bool accepted, size_t first, size_t second, const uint32_t *tree, size_t tree_length,
+                    const uint32_t *dropped, size_t dropped_length, uint8_t *out, size_t out_length, size_t *length);
 
 #ifdef __cplusplus
 }

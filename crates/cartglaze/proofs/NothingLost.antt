@@ -1,5 +1,5 @@
--- Demand 3 for a client of the run: whoever has an accepted answer and both buffers, and knows of them what the contract says, has the theorems about the
--- rules' run on these buffers, without a look into the parser. Assumes nothing.
+-- Demand 3 for a client of the run: whoever has an accepted answer and both buffers, and knows of them what the contract says, has the theorems about
+-- the rules' run on these buffers, without a look into the parser. Assumes nothing.
 use mathlib.Core.Path.{_≡_, sym, ap, _∙_}
 use mathlib.Core.List.{List}
 use Prim.Native.Nat.{ℕ}

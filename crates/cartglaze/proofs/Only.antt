@@ -1,5 +1,5 @@
--- The contracts fix what they speak of: two results that meet one are equal. A contract that equates the result with a rule's leaves one value; where the
--- result stands for the rule's, no two stand for the same. Assumes nothing.
+-- The contracts fix what they speak of: two results that meet one are equal. A contract that equates the result with a rule's leaves one value; where
+-- the result stands for the rule's, no two stand for the same. Assumes nothing.
 use mathlib.Core.Path.{_≡_, sym, ap, _∙_}
 use mathlib.Core.Bool.{Bool}
 use mathlib.Core.List.{List}
@@ -30,7 +30,7 @@ second (rules.accepted rows dropped) = dropped
 second (rules.refusedAt number place) = place
 
 -- two answers that stand for the same are the same
-same-answer : (r s : Answer) → answerOf r ≡ answerOf s → r ≡ s
+pub same-answer : (r s : Answer) → answerOf r ≡ answerOf s → r ≡ s
 same-answer (Accepted rows dropped) (Accepted n m) e =
     let one : rows ≡ n = omega (arith, ap first e) in
     let other : dropped ≡ m = omega (arith, ap second e) in
@@ -43,7 +43,9 @@ same-answer (Refused number place) (Refused n p) e =
     rw (one, other)
 
 -- the answer and every element of both buffers
-pub only-run : (t : Tables) (tree dropped : List ℕ) (r s : Answer) (v v′ w w′ : List ℕ) → run t tree dropped ≡ ranOf r v w → run t tree dropped ≡ ranOf s v′ w′ → (r ≡ s) × ((v ≡ v′) × (w ≡ w′))
+pub only-run : (t : Tables) (tree dropped : List ℕ) (r s : Answer) (v v′ w w′ : List ℕ) → run t tree dropped ≡ ranOf r v w
+    → run t tree dropped ≡ ranOf s v′ w′
+    → (r ≡ s) × ((v ≡ v′) × (w ≡ w′))
 only-run t tree dropped r s v v′ w w′ e f =
     let same = sym e ∙ f in
     (same-answer r s (ap (λ x. x .answer) same), (ap (λ x. x .tree) same, ap (λ x. x .dropped) same))
@@ -66,5 +68,6 @@ module _ (text tree : List ℕ) (row : ℕ) where
   only-range r s e f = let same = e ∙ sym f in rw (ap (λ x. x .start) same, ap (λ x. x .size) same)
 
 -- the bytes that come back and where they lie; the name under which the prover tracks them is no part of a program
-pub only-text : (text : RefT (List ℕ)) (tree : List ℕ) (row : ℕ) (r s : RefT (List ℕ)) → LeafText text tree row r → LeafText text tree row s → (now r ≡ now s) × (r .ptr ≡ s .ptr)
+pub only-text : (text : RefT (List ℕ)) (tree : List ℕ) (row : ℕ) (r s : RefT (List ℕ)) → LeafText text tree row r → LeafText text tree row s
+    → (now r ≡ now s) × (r .ptr ≡ s .ptr)
 only-text text tree row r s e f = (e .is ∙ sym (f .is), e .place ∙ sym (f .place))

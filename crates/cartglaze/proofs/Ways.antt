@@ -1,4 +1,5 @@
--- The run, case by case: refused by a check, accepted, refused while reading. Rows, and behind them what a buffer held, are the whole buffer. Assumes nothing.
+-- The run, case by case: refused by a check, accepted, refused while reading. Rows, and behind them what a buffer held, are the whole buffer. The
+-- premises of each law are what the calls of `whole::run` give, so that its proof names the law alone. Assumes nothing.
 use mathlib.Core.Path.{_≡_, ap, _∙_}
 use mathlib.Core.List.{List}
 use Prim.Native.Nat.{ℕ, _*_, _/_, _≤_}
@@ -12,7 +13,7 @@ use Rattle.checks.specs.Checked.{checkedOf}
 use Rattle.checks.specs.declared.order.Checked.{Checked}
 use Rattle.checks.specs.declared.order.Checked.the-variants as checked
 use Rattle.checks.proofs.Answers.{fine, sound}
-use Rattle.routines.specs.Stands.{Buffers, outOf}
+use Rattle.routines.specs.Stands.{outOf}
 use Rattle.routines.specs.declared.state.Parser.{Parser}
 use Rattle.routines.specs.declared.state.Step.{Step}
 use Rattle.routines.specs.declared.state.Step.the-variants as step
@@ -41,19 +42,23 @@ module _ (t : Tables) (tree dropped : List ℕ) where
         let a = fine t (length dropped) e is in
         record { good = record { sound = sound a; few = a .limits .tokens .few; shaped = λ i h. a .token i h .shaped }; room = a .room }
 
-    module _ {r : Step} {v : Buffers} (is : c ≡ checked.Fine) (parsed : Parsed t (buffers tree dropped) r v) where
-      reads : run t tree dropped ≡ afterReading tree dropped (outOf r v)
+    -- of what is read there is an outcome, and both buffers after it
+    module _ {r : Step} {v w : List ℕ} (is : c ≡ checked.Fine) (parsed : Parsed t (buffers tree dropped) r (buffers v w)) where
+      reads : run t tree dropped ≡ afterReading tree dropped (outOf r (buffers v w))
       unfolding run
       reads = rw (e ∙ ap checkedOf is, parsed .is)
 
-      pub accepted : {q : Parser} → r ≡ step.Went q → run t tree dropped ≡ ranOf (Accepted (q .builder .rows) (q .dropped)) (v .tree) (v .dropped)
-      accepted {q} went =
-          let written : Written (buffers tree dropped) v q = rw went at (parsed .gone) in
-          let rows = over-is (q .builder .rows * treeWidth) tree (v .tree) (written .rows) (written .tree-rest) in
-          let notes = over-is (q .dropped * droppedWidth) dropped (v .dropped) (written .dropped) (written .dropped-rest) in
-          reads ∙ rw (went, count-is (q .dropped) (v .dropped) (written .dropped), rows, notes)
+      pub accepted : {q : Parser} {rows drops : ℕ} → r ≡ step.Went q → rows ≡ q .builder .rows → drops ≡ q .dropped
+          → run t tree dropped ≡ ranOf (Accepted rows drops) v w
+      accepted {q} went rows-are drops-are =
+          let written : Written (buffers tree dropped) (buffers v w) q = rw went at (parsed .gone) in
+          let tree-is = over-is (q .builder .rows * treeWidth) tree v (written .rows) (written .tree-rest) in
+          let dropped-is = over-is (q .dropped * droppedWidth) dropped w (written .dropped) (written .dropped-rest) in
+          reads ∙ rw (went, count-is (q .dropped) w (written .dropped), tree-is, dropped-is, rows-are, drops-are)
 
       -- 5 to 8
-      pub refused-while : {number place : ℕ} {x y : List ℕ} → r ≡ step.Refused number place → length (v .tree) ≡ length tree → length (v .dropped) ≡ length dropped
-          → x ≡ replicate (length (v .tree)) 0 → y ≡ replicate (length (v .dropped)) 0 → run t tree dropped ≡ ranOf (Refused number place) x y
+      pub refused-while : {number place : ℕ} {x y : List ℕ} → r ≡ step.Refused number place → length v ≡ length tree → length w ≡ length dropped
+          → x ≡ replicate (length v) 0
+          → y ≡ replicate (length w) 0
+          → run t tree dropped ≡ ranOf (Refused number place) x y
       refused-while stopped tree-long dropped-long zeros zeros′ = reads ∙ rw (stopped, zeros, zeros′, tree-long, dropped-long)

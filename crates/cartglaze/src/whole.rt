@@ -20,15 +20,17 @@ pub fn run(
     tree: &mut [u32],
     dropped: &mut [u32],
 ) -> Answer
-    ensures { λ r. ⌜ runOf (tables (now (text .entry)) (now (tokens .entry)) (now (shapes .entry)) (now (states .entry))) (now (tree .entry)) (now (dropped .entry)) ≡ ranOf r (now (tree .exit)) (now (dropped .exit)) ⌝ }
+    ensures { λ r.
+        let t = tables (now (text .entry)) (now (tokens .entry)) (now (shapes .entry)) (now (states .entry)) in
+        ⌜ runOf t (now (tree .entry)) (now (dropped .entry)) ≡ ranOf r (now (tree .exit)) (now (dropped .exit)) ⌝ }
 {
     let checked = check(text, tokens, shapes, states, dropped.len());
     if let Checked::Refused(number, place) = checked {
         return Answer::Refused(number, place);
     }
-    let r = parse(text, tokens, shapes, states, tree, dropped);
-    match r {
-        Step::Went(p) => Answer::Accepted(p.builder.rows, p.dropped),
+    let read = parse(text, tokens, shapes, states, tree, dropped);
+    match read {
+        Step::Went(end) => Answer::Accepted(end.builder.rows, end.dropped),
         Step::Refused(number, place) => {
             clear(tree);
             clear(dropped);

@@ -1,15 +1,18 @@
--- What an answer of `check` tells its caller: it is the only one that meets the contract, and tables that are fine have every token's text
+-- What the answers of the checks tell their callers: each is the only one that meets its contract, and tables that are fine have every token's text
 -- inside theirs. Assumes nothing.
 use Prim.Native.Nat.{ℕ}
+use mathlib.Core.Bool.{Bool}
 use mathlib.Core.Path.{_≡_, refl, sym, ap, _∙_}
 use native.Mathlib.Omega.{arith}
 use lib.ListN.{drop, length-drop}
 use lib.Seq.{length-take-le}
-use Rattle.rules.specs.Checks.{Refusal, Tables, checks}
+use Rattle.rules.specs.Checks.{Refusal, Tables, checks, withinLimits}
 use Rattle.rules.specs.Tables.{lengthAt, startAt}
 use Rattle.rules.proofs.Checks.{Accepted, accepted}
 use Rattle.lexer.specs.Fine.{Sound}
-use Rattle.checks.specs.Checked.{checkedOf}
+use Rattle.checks.specs.Checked.{checkedOf, badOf, FirstBad}
+use Rattle.checks.specs.declared.bad.Bad.{Bad}
+use Rattle.checks.specs.declared.bad.Bad.the-variants.{Row, Nowhere}
 use Rattle.checks.specs.declared.order.Checked.{Checked}
 use Rattle.checks.specs.declared.order.Checked.the-variants.{Fine, Refused}
 
@@ -22,6 +25,23 @@ same-answer (Refused number place) (Refused n p) e =
     let pair : _≡_ {A = Refusal} (number, place) (n, p) = cc in
     cc (ap (λ (r : Refusal). r .0) pair, ap (λ (r : Refusal). r .1) pair)
 
+-- `within_limits`
+pub only-limits : (t : Tables) (r s : Bool) → r ≡ withinLimits t → s ≡ withinLimits t → r ≡ s
+only-limits t r s e f = e ∙ sym f
+
+-- `first_bad_token` and `first_bad_shape_or_state`, for some tables that they do not look at
+same-bad : (r s : Bad) → badOf r ≡ badOf s → r ≡ s
+same-bad (Row row) (Row other) e = cc
+same-bad (Row row) Nowhere e = cc
+same-bad Nowhere (Row row) e = cc
+same-bad Nowhere Nowhere e = refl
+
+pub only-bad : {Unseen : Type 0} {right : Unseen → ℕ → Bool} {count : ℕ} (r s : Bad) (unseen : Unseen) → FirstBad right count r
+    → FirstBad right count s
+    → r ≡ s
+only-bad r s unseen e f = same-bad r s (sym (e .is unseen) ∙ f .is unseen)
+
+-- `check`
 module _ (t : Tables) (dropped : ℕ) where
   pub only-answer : (r s : Checked) → checks t dropped ≡ checkedOf r → checks t dropped ≡ checkedOf s → r ≡ s
   only-answer r s e f = same-answer r s (sym e ∙ f)

@@ -2,6 +2,7 @@
 ghost use mathlib.Core.Path.{_≡_};
 ghost use Prim.Native.Nat.{_<_};
 ghost use Rattle.rules.specs.Checks.{wholeRows, withinLimits};
+ghost use Rattle.checks.specs.Checked.{tables};
 use syntax::Limits;
 
 // Whether a table is whole rows of so many numbers, at most so many of them.
@@ -14,7 +15,7 @@ fn whole_rows(table: &[u32], width: usize, most: usize) -> bool
 
 // Whether no limit is passed and every table is whole rows.
 pub fn within_limits(text: &[u8], tokens: &[u32], shapes: &[u32], states: &[u32]) -> bool
-    ensures { λ r. ⌜ r ≡ withinLimits (record { text = now (text .entry); tokens = now (tokens .entry); shapes = now (shapes .entry); states = now (states .entry) }) ⌝ }
+    ensures { λ r. ⌜ r ≡ withinLimits (tables (now (text .entry)) (now (tokens .entry)) (now (shapes .entry)) (now (states .entry))) ⌝ }
 {
     if Limits::TEXT < text.len() {
         return false;

@@ -1,7 +1,7 @@
 // The checks in 01's order: 1 to 4, each with its place.
 ghost use mathlib.Core.Path.{_≡_};
 ghost use Rattle.rules.specs.Checks.{checks};
-ghost use Rattle.checks.specs.Checked.{checkedOf};
+ghost use Rattle.checks.specs.Checked.{tables, checkedOf};
 use crate::bad::Bad;
 use crate::limits::within_limits;
 use crate::shapes::first_bad_shape_or_state;
@@ -17,7 +17,9 @@ pub enum Checked {
 
 // The tables are judged beside a dropped buffer of so many numbers. Nothing is asked of them.
 pub fn check(text: &[u8], tokens: &[u32], shapes: &[u32], states: &[u32], dropped: usize) -> Checked
-    ensures { λ r. ⌜ checks (record { text = now (text .entry); tokens = now (tokens .entry); shapes = now (shapes .entry); states = now (states .entry) }) dropped ≡ checkedOf r ⌝ }
+    ensures { λ r.
+        let t = tables (now (text .entry)) (now (tokens .entry)) (now (shapes .entry)) (now (states .entry)) in
+        ⌜ checks t dropped ≡ checkedOf r ⌝ }
 {
     if !within_limits(text, tokens, shapes, states) {
         return Checked::Refused(Refusal::LIMIT, 0);

@@ -1,13 +1,12 @@
 // Refusal 4: the first shape or state row that is not as it must be, states counted on after shapes.
 ghost use mathlib.Core.Path.{_≡_};
-ghost use mathlib.Core.List.{List};
-ghost use Prim.Native.Nat.{ℕ, _+_, _*_, _/_, _≤_, _<_};
+ghost use Prim.Native.Nat.{_+_, _*_, _≤_, _<_};
 ghost use lib.Dec.{leb};
 ghost use lib.ListN.{getD, length};
-ghost use Rattle.rules.specs.Checks.{firstBad, shapeOrStateRight, shapeRight, stateRight, valueRight};
-ghost use Rattle.rules.specs.Limits.{shapeWidth, stateWidth};
+ghost use Rattle.rules.specs.Checks.{shapeRight, stateRight, valueRight};
+ghost use Rattle.rules.specs.Limits.{stateWidth};
 ghost use Rattle.items.specs.Items.{shapeFor};
-ghost use Rattle.checks.specs.Checked.{badOf};
+ghost use Rattle.checks.specs.Checked.{Judged, FirstBad, shapeOrStateRow, shapesAndStates};
 use crate::bad::Bad;
 use items::Shape;
 use syntax::Class;
@@ -65,8 +64,8 @@ fn state_right(states: &[u32], count: usize, row: usize) -> bool
 
 // A row behind the last shape is a state's.
 fn shape_or_state_right(shapes: &[u32], states: &[u32], row: usize) -> bool
-    requires { ⌜ row < length (now shapes) / shapeWidth + length (now states) / stateWidth ⌝ }
-    ensures { λ r. ⌜ ((text tokens : List ℕ) → r ≡ shapeOrStateRight (record { text = text; tokens = tokens; shapes = now (shapes .entry); states = now (states .entry) }) row) ⌝ }
+    requires { ⌜ row < shapesAndStates (now shapes) (now states) ⌝ }
+    ensures { λ r. ⌜ Judged (shapeOrStateRow (now (shapes .entry)) (now (states .entry))) row r ⌝ }
 {
     let shape_count = shapes.len() / Limits::SHAPE_WIDTH;
     let state_count = states.len() / Limits::STATE_WIDTH;
@@ -78,7 +77,10 @@ fn shape_or_state_right(shapes: &[u32], states: &[u32], row: usize) -> bool
 
 // One count runs through both tables.
 pub fn first_bad_shape_or_state(shapes: &[u32], states: &[u32]) -> Bad
-    ensures { λ r. ⌜ ((text tokens : List ℕ) → firstBad (shapeOrStateRight (record { text = text; tokens = tokens; shapes = now (shapes .entry); states = now (states .entry) })) (length (now (shapes .entry)) / shapeWidth + length (now (states .entry)) / stateWidth) 0 ≡ badOf r) ⌝ }
+    ensures { λ r.
+        let shapes = now (shapes .entry) in
+        let states = now (states .entry) in
+        ⌜ FirstBad (shapeOrStateRow shapes states) (shapesAndStates shapes states) r ⌝ }
 {
     let count = shapes.len() / Limits::SHAPE_WIDTH + states.len() / Limits::STATE_WIDTH;
     for row in 0..count {

@@ -1,11 +1,9 @@
 // Refusal 3: the first token row that is not as it must be.
 ghost use mathlib.Core.Path.{_≡_};
-ghost use mathlib.Core.List.{List};
 ghost use Prim.Native.Nat.{ℕ, _+_, _≤_, _<_};
 ghost use lib.ListN.{length};
-ghost use Rattle.rules.specs.Checks.{firstBad, tokenRight, wordRight};
 ghost use Rattle.rules.specs.Tables.{lengthAt, startAt, tokenCount};
-ghost use Rattle.checks.specs.Checked.{badOf};
+ghost use Rattle.checks.specs.Checked.{Judged, FirstBad, wordRow, tokenRow};
 use crate::bad::Bad;
 use lexer::Column;
 use lexer::cell;
@@ -16,7 +14,7 @@ use syntax::Token;
 // Whether a Word's own bytes, a part of the caller's text that starts in its middle, are one or more and UTF-8.
 fn word_right(text: &[u8], tokens: &[u32], token: usize) -> bool
     requires { ⌜ (token < tokenCount (now tokens)) × (startAt (now tokens) token + lengthAt (now tokens) token ≤ length (now text)) ⌝ }
-    ensures { λ r. ⌜ ((shapes states : List ℕ) → r ≡ wordRight (record { text = now (text .entry); tokens = now (tokens .entry); shapes = shapes; states = states }) token) ⌝ }
+    ensures { λ r. ⌜ Judged (wordRow (now (text .entry)) (now (tokens .entry))) token r ⌝ }
 {
     let start = cell(tokens, token, Column::START) as usize;
     let end = start + cell(tokens, token, Column::LENGTH) as usize;
@@ -26,7 +24,7 @@ fn word_right(text: &[u8], tokens: &[u32], token: usize) -> bool
 // Whether a token row has a kind of the forty, lies inside the text, has a shape of the table, and is right if it is a Word.
 fn token_right(text: &[u8], tokens: &[u32], shapes: &[u32], token: usize) -> bool
     requires { ⌜ token < tokenCount (now tokens) ⌝ }
-    ensures { λ r. ⌜ ((states : List ℕ) → r ≡ tokenRight (record { text = now (text .entry); tokens = now (tokens .entry); shapes = now (shapes .entry); states = states }) token) ⌝ }
+    ensures { λ r. ⌜ Judged (tokenRow (now (text .entry)) (now (tokens .entry)) (now (shapes .entry))) token r ⌝ }
 {
     let kind = cell(tokens, token, Column::KIND);
     if Limits::KINDS <= kind as usize {
@@ -49,7 +47,9 @@ fn token_right(text: &[u8], tokens: &[u32], shapes: &[u32], token: usize) -> boo
 
 // Unused rows are looked at too.
 pub fn first_bad_token(text: &[u8], tokens: &[u32], shapes: &[u32]) -> Bad
-    ensures { λ r. ⌜ ((states : List ℕ) → firstBad (tokenRight (record { text = now (text .entry); tokens = now (tokens .entry); shapes = now (shapes .entry); states = states })) (tokenCount (now (tokens .entry))) 0 ≡ badOf r) ⌝ }
+    ensures { λ r.
+        let tokens = now (tokens .entry) in
+        ⌜ FirstBad (tokenRow (now (text .entry)) tokens (now (shapes .entry))) (tokenCount tokens) r ⌝ }
 {
     let count = tokens.len() / Limits::TOKEN_WIDTH;
     for token in 0..count {

@@ -1,5 +1,6 @@
--- Two results of an exported function that meet its contract are equal: answers that Bool and numbers stand for differ where these do. The questions' contracts
--- equate the result with the rule's, as those of the functions that they hand on (crates/cartglaze/proofs/Only.antt). Assumes nothing.
+-- Two results of an exported function that meet its contract are equal: answers that a Bool and numbers stand for differ where these do. The
+-- contracts of the questions equate the result with the rule's, as those of the functions that they hand on (crates/cartglaze/proofs/Only.antt).
+-- Assumes nothing.
 use mathlib.Core.Path.{_≡_, refl, sym, ap, _∙_}
 use mathlib.Core.Bool.{Bool, true, false}
 use mathlib.Core.List.{List}
@@ -22,37 +23,26 @@ use Rattle.ffi.specs.declared.sheet.Counts.{Counts}
 -- ---- the run
 
 -- an answer number by number
-abbrev is : Answer → Bool
-is (accepted rows dropped) = true
-is (refusedAt number place) = false
+abbrev told : Answer → Bool × (ℕ × ℕ)
+told (accepted rows dropped) = (true, (rows, dropped))
+told (refusedAt number place) = (false, (number, place))
 
-abbrev first : Answer → ℕ
-first (accepted rows dropped) = rows
-first (refusedAt number place) = number
+told-of : (r : Bool) (a b : ℕ) → told (answerFrom r a b) ≡ (r, (a, b))
+told-of true a b = refl
+told-of false a b = refl
 
-abbrev second : Answer → ℕ
-second (accepted rows dropped) = dropped
-second (refusedAt number place) = place
-
-is-of : (r : Bool) (a b : ℕ) → is (answerFrom r a b) ≡ r
-is-of true a b = refl
-is-of false a b = refl
-
-first-of : (r : Bool) (a b : ℕ) → first (answerFrom r a b) ≡ a
-first-of true a b = refl
-first-of false a b = refl
-
-second-of : (r : Bool) (a b : ℕ) → second (answerFrom r a b) ≡ b
-second-of true a b = refl
-second-of false a b = refl
+same-answer : (r s : Bool) (a b c d : ℕ) → answerFrom r a b ≡ answerFrom s c d → (r ≡ s) × ((a ≡ c) × (b ≡ d))
+same-answer r s a b c d e =
+    let same = sym (told-of r a b) ∙ ap told e ∙ told-of s c d in
+    (ap (λ x. x .0) same, (ap (λ x. x .1 .0) same, ap (λ x. x .1 .1) same))
 
 -- what is returned, both numbers and every element of both buffers
-pub only-run : (t : Tables) (tree dropped : List ℕ) (r s : Bool) (a b c d : ℕ) (v w x y : List ℕ) → run t tree dropped ≡ ranFrom r a b v w → run t tree dropped ≡ ranFrom s c d x y
-    → (r ≡ s) × ((a ≡ c) × ((b ≡ d) × ((v ≡ x) × (w ≡ y))))
+pub only-run : (t : Tables) (tree dropped : List ℕ) (r s : Bool) (a b c d : ℕ) (v w x y : List ℕ) → run t tree dropped ≡ ranFrom r a b v w
+    → run t tree dropped ≡ ranFrom s c d x y
+    → ((r ≡ s) × ((a ≡ c) × (b ≡ d))) × ((v ≡ x) × (w ≡ y))
 only-run t tree dropped r s a b c d v w x y e f =
     let same = sym e ∙ f in
-    let answers : answerFrom r a b ≡ answerFrom s c d = ap (λ z. z .answer) same in
-    (sym (is-of r a b) ∙ ap is answers ∙ is-of s c d, (sym (first-of r a b) ∙ ap first answers ∙ first-of s c d, (sym (second-of r a b) ∙ ap second answers ∙ second-of s c d, (ap (λ z. z .tree) same, ap (λ z. z .dropped) same))))
+    (same-answer r s a b c d (ap (λ z. z .answer) same), (ap (λ z. z .tree) same, ap (λ z. z .dropped) same))
 
 -- ---- the leaf's range
 pub only-start : (text tree : List ℕ) (row r s : ℕ) → r ≡ leafRange text tree row .start → s ≡ leafRange text tree row .start → r ≡ s
@@ -64,8 +54,9 @@ only-length text tree row r s e f = e ∙ sym f
 -- ---- a sheet
 
 -- what is returned, all five numbers and every element of the lent ones
-pub only-read : {tables : Option Tables} {numbers v w : List ℕ} {r s : Counts} → Hands tables numbers r v → Hands tables numbers s w → (r ≡ s) × (v ≡ w)
-only-read a b = (a .counts-are ∙ sym (b .counts-are), a .written ∙ sym (b .written))
+pub only-read : {tables : Option Tables} {numbers v w : List ℕ} {r s : Counts} → Hands tables numbers r v → Hands tables numbers s w
+    → (r ≡ s) × (v ≡ w)
+only-read one other = (one .counts-are ∙ sym (other .counts-are), one .written ∙ sym (other .written))
 
 -- a sheet that is not read and needs no room is refused: one that has no room has a number at least
 pub refused-tells : (tables : Option Tables) {numbers after : List ℕ} → Hands tables numbers (notRead 0) after → tables ≡ none
@@ -79,24 +70,17 @@ refused-tells (some t) {numbers} k =
     absurd (omega arith))
 
 -- ---- a listing
-abbrev written : Listed → Bool
-written (Bytes n) = true
-written (NoRoom n) = false
+abbrev listed : Listed → Bool × ℕ
+listed (Bytes n) = (true, n)
+listed (NoRoom n) = (false, n)
 
-abbrev bytes : Listed → ℕ
-bytes (Bytes n) = n
-bytes (NoRoom n) = n
-
-written-of : (r : Bool) (n : ℕ) → written (listedFrom r n) ≡ r
-written-of true n = refl
-written-of false n = refl
-
-bytes-of : (r : Bool) (n : ℕ) → bytes (listedFrom r n) ≡ n
-bytes-of true n = refl
-bytes-of false n = refl
+listed-of : (r : Bool) (n : ℕ) → listed (listedFrom r n) ≡ (r, n)
+listed-of true n = refl
+listed-of false n = refl
 
 -- what is returned, the number and every byte of the lent ones
-pub only-list : (lines out : List ℕ) (r s : Bool) (n m : ℕ) (v w : List ℕ) → Lists lines out (listedFrom r n) v → Lists lines out (listedFrom s m) w → (r ≡ s) × ((n ≡ m) × (v ≡ w))
-only-list lines out r s n m v w a b =
-    let same : listedFrom r n ≡ listedFrom s m = a .answer ∙ sym (b .answer) in
-    (sym (written-of r n) ∙ ap written same ∙ written-of s m, (sym (bytes-of r n) ∙ ap bytes same ∙ bytes-of s m, a .written ∙ sym (b .written)))
+pub only-list : (lines out : List ℕ) (r s : Bool) (n m : ℕ) (v w : List ℕ) → Lists lines out (listedFrom r n) v → Lists lines out (listedFrom s m) w
+    → (r ≡ s) × ((n ≡ m) × (v ≡ w))
+only-list lines out r s n m v w one other =
+    let same = sym (listed-of r n) ∙ ap listed (one .answer ∙ sym (other .answer)) ∙ listed-of s m in
+    (ap (λ x. x .0) same, (ap (λ x. x .1) same, one .written ∙ sym (other .written)))

@@ -27,13 +27,18 @@ ranFrom is first second tree dropped = record { answer = answerFrom is first sec
 
 -- ---- a sheet
 
+-- what is handed out, in the order of the parameters
+abbrev pub handed : Bool → ℕ → ℕ → ℕ → ℕ → ℕ → Counts
+handed read text tokens shapes states needed =
+    record { read = read; text = text; tokens = tokens; shapes = shapes; states = states; needed = needed }
+
 -- none of its sections is told: it is refused, or has so many numbers that there is no room for
 abbrev pub notRead : ℕ → Counts
-notRead needed = record { read = false; text = 0; tokens = 0; shapes = 0; states = 0; needed = needed }
+notRead needed = handed false 0 0 0 0 needed
 
 -- a sheet without room has a number at least, so 0 tells refusal 9 (`refused-tells`)
 abbrev pub countsOf : Sheet → Counts
-countsOf (sheet.Read s) = record { read = true; text = s .text; tokens = s .tokens; shapes = s .shapes; states = s .states; needed = 0 }
+countsOf (sheet.Read s) = handed true (s .text) (s .tokens) (s .shapes) (s .states) 0
 countsOf sheet.Refused = notRead 0
 countsOf (sheet.NoRoom numbers) = notRead numbers
 

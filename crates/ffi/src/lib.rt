@@ -35,7 +35,10 @@ pub extern "C" fn cartglaze_run(
     first: &mut usize,
     second: &mut usize,
 ) -> bool
-    ensures { λ r. ⌜ runOf (tables (now (text .entry)) (now (tokens .entry)) (now (shapes .entry)) (now (states .entry))) (now (tree .entry)) (now (dropped .entry)) ≡ ranFrom r (now (first .exit)) (now (second .exit)) (now (tree .exit)) (now (dropped .exit)) ⌝ }
+    ensures { λ r.
+        let t = tables (now (text .entry)) (now (tokens .entry)) (now (shapes .entry)) (now (states .entry)) in
+        let ran = ranFrom r (now (first .exit)) (now (second .exit)) (now (tree .exit)) (now (dropped .exit)) in
+        ⌜ runOf t (now (tree .entry)) (now (dropped .entry)) ≡ ran ⌝ }
 {
     let answer = run(text, tokens, shapes, states, tree, dropped);
     match answer {

@@ -43,7 +43,9 @@ pub extern "C" fn cartglaze_list(
     out: &mut [u8],
     length: &mut usize,
 ) -> bool
-    ensures { λ r. ⌜ Lists (listing (answerIn accepted first second) (now (tree .entry)) (now (dropped .entry))) (now (out .entry)) (listedFrom r (now (length .exit))) (now (out .exit)) ⌝ }
+    ensures { λ r.
+        let lines = listing (answerIn accepted first second) (now (tree .entry)) (now (dropped .entry)) in
+        ⌜ Lists lines (now (out .entry)) (listedFrom r (now (length .exit))) (now (out .exit)) ⌝ }
 {
     let listed = list(answer_in(accepted, first, second), tree, dropped, out);
     match listed {

@@ -1,7 +1,7 @@
 // A sheet, read for C and Rust: what it comes to is handed out number by number.
 ghost use mathlib.Core.Path.{_≡_};
 ghost use Rattle.rules.specs.Sheet.{read as readOf};
-ghost use Rattle.ffi.specs.Exported.{notRead, countsOf, Hands};
+ghost use Rattle.ffi.specs.Exported.{handed, notRead, countsOf, Hands};
 use cartglaze::Sheet;
 use cartglaze::read;
 
@@ -57,7 +57,9 @@ pub extern "C" fn cartglaze_read(
     states: &mut usize,
     needed: &mut usize,
 ) -> bool
-    ensures { λ r. ⌜ Hands (readOf (now (sheet .entry))) (now (numbers .entry)) (record { read = r; text = now (text .exit); tokens = now (tokens .exit); shapes = now (shapes .exit); states = now (states .exit); needed = now (needed .exit) }) (now (numbers .exit)) ⌝ }
+    ensures { λ r.
+        let counts = handed r (now (text .exit)) (now (tokens .exit)) (now (shapes .exit)) (now (states .exit)) (now (needed .exit)) in
+        ⌜ Hands (readOf (now (sheet .entry))) (now (numbers .entry)) counts (now (numbers .exit)) ⌝ }
 {
     let counts = counts_of(read(sheet, numbers));
     *text = counts.text;

@@ -12,17 +12,12 @@ use Rattle.ffi.specs.Exported.{ranFrom}
 use Rattle.ffi.proofs.cartglaze_run.Statement.{statement}
 use Rattle.ffi.proofs.cartglaze_run.Tie as tie
 
-accepted-as : {ran : Ran} {r : Answer} {tree dropped : List ℕ} {rows count : ℕ} → ran ≡ ranOf r tree dropped → r ≡ Accepted rows count → ran ≡ ranFrom true rows count tree dropped
-accepted-as {tree = tree} {dropped} e is = e ∙ ap (λ (x : Answer). ranOf x tree dropped) is
+module _ {ran : Ran} {answer : Answer} {tree dropped : List ℕ} (is : ran ≡ ranOf answer tree dropped) where
+  accepted : {rows count : ℕ} → answer ≡ Accepted rows count → ran ≡ ranFrom true rows count tree dropped
+  accepted e = is ∙ ap (λ (x : Answer). ranOf x tree dropped) e
 
-refused-as : {ran : Ran} {r : Answer} {tree dropped : List ℕ} {number place wide : ℕ} → ran ≡ ranOf r tree dropped → r ≡ Refused number place → wide ≡ number → ran ≡ ranFrom false wide place tree dropped
-refused-as {tree = tree} {dropped} e is same = e ∙ ap (λ (x : Answer). ranOf x tree dropped) is ∙ rw same
-
-returns : tie.Need-returns
-returns c = accepted-as (c .before .before .before .before .before .before .before .run .ensures) (c .before .answer .given .1)
-
-returns-2 : tie.Need-returns-2
-returns-2 c = refused-as (c .before .before .before .before .before .before .before .before .run .ensures) (c .before .before .answer2 .given .1) (c .wide .ensures)
+  refused : {number place wide : ℕ} → answer ≡ Refused number place → wide ≡ number → ran ≡ ranFrom false wide place tree dropped
+  refused e same = is ∙ ap (λ (x : Answer). ranOf x tree dropped) e ∙ rw same
 
 pub cartglaze-run-spec : {M : Type 1} → statement M
 cartglaze-run-spec =
@@ -34,7 +29,7 @@ cartglaze-run-spec =
     (λ c κs. search needs)
     (λ c. search needs)
     (λ c. search needs)
-    returns
+    (λ c. search accepted)
     (λ c. search needs)
     (λ c. search needs)
-    returns-2)
+    (λ c. search refused))

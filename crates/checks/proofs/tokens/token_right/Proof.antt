@@ -1,49 +1,48 @@
--- `token_right` meets its contract: its tests are the rule's, in its order. Assumes nothing.
-use Prim.Native.Nat.{ℕ}
+-- `token_right` meets its contract: its tests are the rule's, in its order, and each way out is a law over what the tests before it told. Assumes
+-- nothing.
+use Prim.Native.Nat.{ℕ, _+_, _/_, _≤_, _<_}
 use borrow.Author.Needs.{needs}
 use borrow.Author.Tests.{lt-ltb, le-ltb, le-leb, lt-leb, eq-eqb, ne-eqb}
+use lib.ListN.{length}
 use lib.Dec.{eqb}
-use mathlib.Core.Bool.{not, _||_}
+use mathlib.Core.Bool.{Bool, true, false, not, _||_}
 use mathlib.Core.List.{List}
 use mathlib.Core.Path.{_≡_, sym, _∙_}
-use Rattle.rules.specs.Checks.{Tables, tokenRight, wordRight}
+use Rattle.rules.specs.Checks.{tokenRight}
+use Rattle.rules.specs.Limits.{kinds, shapeWidth}
+use Rattle.rules.specs.Tables.{kindAt, startAt, lengthAt, shapeAt}
 use Rattle.rules.specs.Token
+use Rattle.checks.specs.Checked.{Judged, wordRow, tokenRow}
 use Rattle.checks.proofs.tokens.token_right.Statement.{statement}
 use Rattle.checks.proofs.tokens.token_right.Tie as tie
 
-abbrev tables : tie.Start → List ℕ → Tables
-tables c states = record { text = c .args .text .now; tokens = c .args .tokens .now; shapes = c .args .shapes .now; states = states }
+module _ (text tokens shapes : List ℕ) (i : ℕ) {kind : ℕ} (kind-is : kind ≡ kindAt tokens i) where
+  no-kind : kinds ≤ kind → Judged (tokenRow text tokens shapes) i false
+  unfolding tokenRight
+  no-kind h = record { is = λ unseen. rw (← kind-is, le-ltb _ _ h) }
 
-no-kind : tie.Need-returns
-unfolding tokenRight
-no-kind c states = rw (← c .before .cell .ensures, le-ltb _ _ (c .if1 .taken))
+  module _ (known : kind < kinds) {start size : ℕ} (start-is : start ≡ startAt tokens i) (size-is : size ≡ lengthAt tokens i) where
+    past-text : length text < start + size → Judged (tokenRow text tokens shapes) i false
+    unfolding tokenRight
+    past-text h = record { is = λ unseen. rw (← kind-is, lt-ltb _ _ known, ← start-is, ← size-is, lt-leb _ _ h) }
 
-past-text : tie.Need-returns-2
-unfolding tokenRight
-past-text c states =
-    rw (← c .before .before .before .before .cell .ensures, lt-ltb _ _ (c .before .before .before .if1 .left), ← c .before .before .cell2 .ensures, ← c .before .cell3 .ensures, lt-leb _ _ (c .if2 .taken))
+    module _ (inside : start + size ≤ length text) {shape : ℕ} (shape-is : shape ≡ shapeAt tokens i) where
+      past-table : length shapes / shapeWidth < shape → Judged (tokenRow text tokens shapes) i false
+      unfolding tokenRight
+      past-table h =
+          record { is = λ unseen. rw (← kind-is, lt-ltb _ _ known, ← start-is, ← size-is, le-leb _ _ inside, ← shape-is, lt-leb _ _ h) }
 
-past-table : tie.Need-returns-3
-unfolding tokenRight
-past-table c states =
-    rw
-    (← c .before .before .before .before .before .before .cell .ensures, lt-ltb _ _ (c .before .before .before .before .before .if1 .left), ← c .before .before .before .before .cell2 .ensures, ← c .before .before .before .cell3 .ensures, le-leb _ _ (c .before .before .if2 .left), ← c .before .cell4 .ensures, lt-leb _ _ (c .if3 .taken))
+      -- behind the first three tests only a Word's own is left
+      module _ (shaped : shape ≤ length shapes / shapeWidth) where
+        left : (states : List ℕ) → tokenRow text tokens shapes states i ≡ (not (eqb kind Token.Word) || wordRow text tokens (shapes, states) i)
+        unfolding tokenRight
+        left states = rw (← kind-is, lt-ltb _ _ known, ← start-is, ← size-is, le-leb _ _ inside, ← shape-is, le-leb _ _ shaped)
 
--- behind the first three tests only a Word's own is left
-past-tests : (c : tie.Else3) (states : List ℕ)
-    → tokenRight (tables (c .before .before .before .before .before .before .before .before .before .before) states) (c .before .before .before .before .before .before .before .before .before .before .args .token)
-    ≡ (not (eqb (c .before .before .before .before .before .before .cell .result) Token.Word) || wordRight (tables (c .before .before .before .before .before .before .before .before .before .before) states) (c .before .before .before .before .before .before .before .before .before .before .args .token))
-unfolding tokenRight
-past-tests c states =
-    rw
-    (← c .before .before .before .before .before .before .cell .ensures, lt-ltb _ _ (c .before .before .before .before .before .if1 .left), ← c .before .before .before .before .cell2 .ensures, ← c .before .before .before .cell3 .ensures, le-leb _ _ (c .before .before .if2 .left), ← c .before .cell4 .ensures, le-leb _ _ (c .if3 .left))
+        word : {r : Bool} → kind ≡ Token.Word → Judged (wordRow text tokens) i r → Judged (tokenRow text tokens shapes) i r
+        word h judged = record { is = λ states. judged .is (shapes, states) ∙ sym (left states ∙ rw (eq-eqb _ _ h)) }
 
-word : tie.Need-returns-4
-word c states =
-    c .word-right .ensures (c .before .before .before .before .before .before .before .before .before .before .before .before .args .shapes .now) states ∙ sym (past-tests (c .before .before) states ∙ rw (eq-eqb _ _ (c .before .if4 .taken)))
-
-no-word : tie.Need-returns-5
-no-word c states = sym (past-tests (c .before) states ∙ rw (ne-eqb _ _ (c .if4 .left)))
+        no-word : (kind ≡ Token.Word → ⊥) → Judged (tokenRow text tokens shapes) i true
+        no-word h = record { is = λ states. sym (left states ∙ rw (ne-eqb _ _ h)) }
 
 pub token-right-spec : {M : Type 1} → statement M
 token-right-spec =
@@ -51,16 +50,16 @@ token-right-spec =
     (tie.spec
     (λ c κs. search needs)
     (λ c. search needs)
-    no-kind
+    (λ c. search no-kind)
     (λ c κs. search needs)
     (λ c. search needs)
     (λ c κs. search needs)
     (λ c. search needs)
     (λ c. search needs)
-    past-text
+    (λ c. search past-text)
     (λ c κs. search needs)
     (λ c. search needs)
-    past-table
+    (λ c. search past-table)
     (λ c κs. search needs)
-    word
-    no-word)
+    (λ c. search word)
+    (λ c. search no-word))

@@ -1,27 +1,31 @@
 -- `word_right` meets its contract: the part that is asked about is the Word's own, and it is empty only where its length is 0. Assumes nothing.
-use Prim.Native.Nat.{_+_, _-_}
+use Prim.Native.Nat.{ℕ, _+_, _-_, _≤_, _<_}
 use borrow.Author.Needs.{needs}
 use borrow.Author.Tests.{eq-eqb, ne-eqb, le-ltb}
+use lib.Dec.{ltb}
+use mathlib.Core.Bool.{Bool}
+use mathlib.Core.List.{List}
 use mathlib.Core.Path.{_≡_, _∙_}
 use native.Mathlib.Omega.{arith}
+use Rattle.rules.specs.Characters.{isUtf8}
 use Rattle.rules.specs.Checks.{wordRight}
+use Rattle.rules.specs.Tables.{startAt, lengthAt, part}
+use Rattle.checks.specs.Checked.{Judged, wordRow}
 use Rattle.checks.proofs.tokens.word_right.Statement.{statement}
 use Rattle.checks.proofs.tokens.word_right.Tie as tie
 
-returns : tie.Need-returns
-unfolding wordRight
-returns c shapes states =
-    let start = c .before .before .before .before .cell .result in
-    let size = c .before .before .before .cell2 .result in
-    let whole : start + size - start ≡ size = omega arith in
-    let more = c .before .before .if1 .taken in
-    c .is-utf8 .ensures ∙ rw (whole, ← c .before .before .before .before .cell .ensures, ← c .before .before .before .cell2 .ensures, ne-eqb size 0 (λ e. omega arith))
+module _ (text tokens : List ℕ) (i : ℕ) {start size : ℕ} (start-is : start ≡ startAt tokens i) (size-is : size ≡ lengthAt tokens i) where
+  -- the code asks of the part from start to start + size
+  asked : {r : Bool} → start < start + size → r ≡ isUtf8 (part text start (start + size - start)) → Judged (wordRow text tokens) i r
+  unfolding wordRight
+  asked more is =
+      let whole : start + size - start ≡ size = omega arith in
+      let some : size ≡ 0 → ⊥ = λ e. omega arith in
+      record { is = λ unseen. is ∙ rw (whole, ← start-is, ← size-is, ne-eqb size 0 some) }
 
-returns-2 : tie.Need-returns-2
-unfolding wordRight
-returns-2 c shapes states =
-    let none = c .if1 .left in
-    rw (le-ltb _ _ (c .if1 .left), ← c .before .cell2 .ensures, eq-eqb (c .before .cell2 .result) 0 (omega arith))
+  empty : start + size ≤ start → Judged (wordRow text tokens) i (ltb start (start + size))
+  unfolding wordRight
+  empty less = record { is = λ unseen. rw (le-ltb _ _ less, ← size-is, eq-eqb size 0 (omega arith)) }
 
 pub word-right-spec : {M : Type 1} → statement M
 word-right-spec =
@@ -36,5 +40,5 @@ word-right-spec =
     (λ c. search needs)
     (λ c. search needs)
     (λ c κs. search needs)
-    returns
-    returns-2)
+    (λ c. search asked)
+    (λ c. search empty))
