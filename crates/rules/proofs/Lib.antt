@@ -5,6 +5,7 @@ pub mod Characters
 pub mod Checks
 pub mod Choices
 pub mod Control
+pub mod Depth
 pub mod Exactly
 pub mod Flat
 pub mod Goes

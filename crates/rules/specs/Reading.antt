@@ -253,17 +253,21 @@ module _ (B : Builder) (source : Source) where
     unfoldable pub content : Bool → Rule B
     content single p = contentFor (peek (source .tokens) (p .lexer)) single p
 
-  -- `content` inside a node below which d more may be opened: where none may, nothing is read. A builder that counts open nodes refuses before that
+  -- the knot. `contentAt (suc d)` is `content` inside a node below which d more may be opened. Level 0 stands for a node that is one too many, in which
+  -- nothing is read: a builder that counts open nodes refuses before that, so it is never reached (proofs/Depth.antt)
   unfoldable pub contentAt : ℕ → Bool → Rule B
   contentAt zero = λ single p. refused tooManyOpen (place B p)
   contentAt (suc d) = content (contentAt d)
 
-  -- `parse`: the root, a list in it, its end
-  unfoldable pub parse : B .State → Out (At B)
-  parse b =
+  -- `parse` where so many nodes may be open, root counted: the root, a list in it, its end
+  abbrev pub parseAt : ℕ → B .State → Out (At B)
+  parseAt d b =
       steps
       (start B SyntaxKind.ScopeRoot
-      ∷ itemList (contentAt (Limits.nodes)) Scope.Root
+      ∷ itemList (contentAt d) Scope.Root
       ∷ finish B SyntaxKind.ScopeRoot (B .frame b)
       ∷ [])
       (record { lexer = atStart; held = 0; list = record { scope = Scope.Root; start = none; last = none }; built = b })
+
+  unfoldable pub parse : B .State → Out (At B)
+  parse b = parseAt Limits.nodes b
