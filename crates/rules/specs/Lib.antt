@@ -23,6 +23,8 @@ pub mod Rowan
 pub mod PutBack
 pub mod Placed
 pub mod Exactly
+pub mod Computed
+pub mod Notation
 pub mod DroppedCases
 pub mod Sheet
 pub mod Listing
