@@ -5,13 +5,13 @@ use mathlib.Core.List.{List, [], _∷_, _++_, map}
 use lib.ListN.{length, replicate}
 use Rattle.rules.specs.Checks.{Tables}
 use Rattle.rules.specs.Computed.{the-run}
-use Rattle.rules.specs.Notation.{Part, between, _of_, _of_shaped_, textOf, tokensOf, fixed, range, greedy, glob, infixGreedy, Shown, nothing, _&_, gone, rowsOf, Root, Attach, Arg, Cmd, Curly, Bracket, Env, Begin, End, BlockComment, Error, Text, word, name, symbol, blank, newLine, underscore, caret, apostrophe, lbrace, rbrace, lbracket, rbracket}
+use Rattle.rules.specs.Notation.{Part, between, _of_, _of_shaped_, textOf, tokensOf, fixed, range, greedy, glob, infixGreedy, DroppedRow, droppedOf, Shown, nothing, _&_, gone, rowsOf, Root, Attach, Arg, Cmd, Curly, Bracket, Env, Begin, End, BlockComment, Error, Text, word, name, symbol, blank, newLine, underscore, caret, apostrophe, lbrace, rbrace, lbracket, rbracket}
 use Rattle.rules.specs.Run.{Answer, accepted, refusedAt, Ran, run}
 use Rattle.rules.specs.Token.{Whitespace, LeftCurly, RightCurly, LeftBracket, RightBracket, Apostrophe, Underscore, Caret, Word, NewLine, Generic, BeginEnvironment, EndEnvironment, IfFalse, If, EndIf}
 
 -- what a formula is expected to give: how many rows, the tree and the dropped rows; or a refusal's number and place
 pub data Expected : Type 0 where
-  gives : ℕ → Shown → List (ℕ × ℕ × ℕ) → Expected
+  gives : ℕ → Shown → List DroppedRow → Expected
   refuses : ℕ → ℕ → Expected
 
 pub record Case : Type 0 where
@@ -47,11 +47,6 @@ found c = outcomeOf (ran c .answer) (ran c .tree) (ran c .dropped)
 -- "later elements keep what they held"
 abbrev pub filled : List ℕ → ℕ → List ℕ
 filled rows size = rows ++ replicate (size - length rows) 7
-
--- "Dropped row: token index, reason (1 trivia, 2 opener, 3 closer), leaves written before it."
-abbrev pub droppedOf : List (ℕ × ℕ × ℕ) → List ℕ
-droppedOf [] = []
-droppedOf (d ∷ rest) = d .0 ∷ d .1 ∷ d .2 ∷ droppedOf rest
 
 abbrev pub wanted : Case → Expected → Outcome
 wanted c (gives rows tree dropped) =

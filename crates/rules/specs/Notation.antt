@@ -5,6 +5,7 @@ use Prim.Native.Char.{code}
 use Prim.Native.String.{String, [] as no-more, _∷_ as _before_}
 use mathlib.Core.List.{List, [], _∷_, _++_}
 use lib.ListN.{length}
+use Rattle.rules.specs.Flat.{droppedRow}
 use Rattle.rules.specs.Items.{classCommand, classEnvironment}
 use Rattle.rules.specs.Matcher.{formFixed, formRange, formGreedy, formGlob, formLeft1, formInfixGreedy}
 use Rattle.rules.specs.SyntaxKind
@@ -73,6 +74,16 @@ left1 = classCommand ∷ formLeft1 ∷ 0 ∷ []
 
 abbrev pub infixGreedy : List ℕ
 infixGreedy = classCommand ∷ formInfixGreedy ∷ 0 ∷ []
+
+-- ---- dropped rows
+
+-- "token index, reason (1 trivia, 2 opener, 3 closer), leaves written before it": 01 writes them so, (9,3,8)
+abbrev pub DroppedRow : Type 0
+DroppedRow = ℕ × ℕ × ℕ
+
+abbrev pub droppedOf : List DroppedRow → List ℕ
+droppedOf [] = []
+droppedOf (d ∷ rest) = droppedRow (d .0) (d .1) (d .2) ++ droppedOf rest
 
 -- ---- trees
 
