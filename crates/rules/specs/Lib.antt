@@ -21,10 +21,10 @@ pub mod Tree
 pub mod Questions
 pub mod Rowan
 pub mod PutBack
-pub mod Placed
-pub mod Exactly
 pub mod Computed
 pub mod Notation
+pub mod Placed
+pub mod Exactly
 pub mod DroppedCases
 pub mod Sheet
 pub mod Listing
