@@ -719,5 +719,5 @@ module _ (source : Source) where
   pub exactly-noted : Goes (λ p. Exact (p .built)) (parse placing source nothing)
   unfolding parse steps
   exactly-noted =
-      bind-goes (itemList-in (contentAt placing source Limits.nodes) (contentAt-in Limits.nodes) Scope.Root (below SyntaxKind.ScopeRoot 0 nothing) _ (in-opens source SyntaxKind.ScopeRoot 0 nothing))
+      bind-goes (itemList-in _ (contentAt-in _) Scope.Root (below SyntaxKind.ScopeRoot 0 nothing) _ (in-opens source SyntaxKind.ScopeRoot 0 nothing))
       (λ p h. goes (root-exact p h))

@@ -328,4 +328,4 @@ module _ {B : Builder} {source : Source} (K : Handed B source) (sound : Sound so
   unfolding parse steps
   parse-reads b read =
       opened-then K sound _ (start! K sound SyntaxKind.ScopeRoot _ (record { read = read; stands = record { inside = omega arith; midway = λ some. absurd (omega arith) }; bound = le-refl _ }))
-      (λ b on. then-if (rootList-if (contentAt-reads Limits.nodes) _ on) (λ q all. last-if (then-if (K .finishes (place B q) SyntaxKind.ScopeRoot _ all) (λ b all. goes all))))
+      (λ b on. then-if (rootList-if (contentAt-reads _) _ on) (λ q all. last-if (then-if (K .finishes (place B q) SyntaxKind.ScopeRoot _ all) (λ b all. goes all))))

@@ -1,4 +1,5 @@
 -- Theorems about the rules alone, and the laws by which other crates use their definitions.
+pub mod Agreed
 pub mod Alike
 pub mod Asked
 pub mod Characters

@@ -5,9 +5,9 @@ use mathlib.Core.List.{List, [], _∷_, _++_, map}
 use lib.ListN.{length, replicate}
 use Rattle.rules.specs.Checks.{Tables}
 use Rattle.rules.specs.Computed.{the-run}
-use Rattle.rules.specs.Notation.{Part, between, _of_, _of_shaped_, textOf, tokensOf, fixed, range, greedy, glob, infixGreedy, DroppedRow, droppedOf, Shown, nothing, _&_, gone, rowsOf, Root, Attach, Arg, Cmd, Curly, Bracket, Env, Begin, End, BlockComment, Error, Text, word, name, symbol, blank, newLine, underscore, caret, apostrophe, lbrace, rbrace, lbracket, rbracket}
+use Rattle.rules.specs.Notation.{Part, between, _of_, _of_shaped_, textOf, tokensOf, fixed, range, greedy, glob, infixGreedy, DroppedRow, droppedOf, Shown, nothing, _&_, gone, rowsOf, Root, Attach, Arg, Cmd, Curly, Bracket, Env, Begin, End, BlockComment, LR, ClauseLR, Error, Text, word, name, symbol, blank, newLine, underscore, caret, apostrophe, lbrace, rbrace, lbracket, rbracket}
 use Rattle.rules.specs.Run.{Answer, accepted, refusedAt, Ran, run}
-use Rattle.rules.specs.Token.{Whitespace, LeftCurly, RightCurly, LeftBracket, RightBracket, Apostrophe, Underscore, Caret, Word, NewLine, Generic, BeginEnvironment, EndEnvironment, IfFalse, If, EndIf}
+use Rattle.rules.specs.Token.{Whitespace, LeftCurly, RightCurly, LeftBracket, RightBracket, Apostrophe, Underscore, Caret, Word, NewLine, Generic, BeginEnvironment, EndEnvironment, IfFalse, If, EndIf, Left}
 
 -- what a formula is expected to give: how many rows, the tree and the dropped rows; or a refusal's number and place
 pub data Expected : Type 0 where
@@ -238,6 +238,14 @@ cases =
       expected =
           gives 15 (Root (Attach (Arg (Cmd (name "\\f" & gone " " & Arg (word "1")) & blank) & caret & word "c"))) ((1, 1, 1) ∷ []);
     }
+    -- `\left ab`: the delimiter is the `a`; "what is left of the word is handed on", and is the text inside
+    ∷ record {
+      formula = Left of "\\left" ∷ Whitespace of " " ∷ Word of "ab" ∷ [];
+      shapes = [];
+      states = [];
+      room = 1000;
+      expected = gives 12 (Root (LR (ClauseLR (name "\\left" & blank & word "a") & Text "b"))) [];
+    }
     -- `\f xy` with room for 7 rows: the leaf of `y` is the row too many. "A token is read once its last leaf is written", so it is refused 8 at 2
     ∷ record {
       formula = Generic of "\\f" shaped 1 ∷ Whitespace of " " ∷ Word of "xy" ∷ [];
@@ -256,6 +264,6 @@ cases =
     }
     ∷ []
 
-examples : map found cases ≡ map (λ (c : Case). wanted c (c .expected)) cases
+pub examples : map found cases ≡ map (λ (c : Case). wanted c (c .expected)) cases
 unfolding rowsOf the-run
 examples = refl

@@ -149,6 +149,6 @@ formulas =
 abbrev pub wanted : Formula → Option (List ℕ)
 wanted f = some (droppedOf (f .dropped))
 
-examples : map (λ (f : Formula). written f ∷ listed f ∷ []) formulas ≡ map (λ (f : Formula). wanted f ∷ wanted f ∷ []) formulas
+pub examples : map (λ (f : Formula). written f ∷ listed f ∷ []) formulas ≡ map (λ (f : Formula). wanted f ∷ wanted f ∷ []) formulas
 unfolding the-run Placed.leavesIn Placed.leavesAll Placed.leafed Placed.opened Placed.openedAt Placed.closed Placed.noted Exactly.greedyName Exactly.passes Exactly.isBlank Exactly.opensIf Exactly.blanksFrom Exactly.isBody Exactly.closing Exactly.droppedIn Exactly.droppedAll Exactly.droppedPassing
 examples = refl

@@ -150,6 +150,12 @@ End t = node SyntaxKind.ItemEnd t
 abbrev pub BlockComment : Shown → Shown
 BlockComment t = node SyntaxKind.ItemBlockComment t
 
+abbrev pub LR : Shown → Shown
+LR t = node SyntaxKind.ItemLR t
+
+abbrev pub ClauseLR : Shown → Shown
+ClauseLR t = node SyntaxKind.ClauseLR t
+
 abbrev pub Error : Shown → Shown
 Error t = node SyntaxKind.TokenError t
 

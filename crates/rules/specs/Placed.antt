@@ -149,6 +149,6 @@ blankBehindTree =
     ∷ leaf (record { token = 3; kind = SyntaxKind.TokenWhiteSpace; start = 4; size = 1 })
     ∷ []))
 
-example : TreeOf blankBehind blankBehindTree
+pub example : TreeOf blankBehind blankBehindTree
 unfolding the-run leafed opened openedAt closed noted
 example = record { end = _; run = refl; is = refl }

@@ -21,7 +21,7 @@ abbrev pub wantedBack : Tables → Expected → List ℕ
 wantedBack t (gives rows tree dropped) = tokenTexts (t .text) (t .tokens)
 wantedBack t (refuses number place) = []
 
-examples : map (λ (c : Case). backOf (tablesOf c) (ran c) (ran c .answer)) cases ≡ map (λ (c : Case). wantedBack (tablesOf c) (c .expected)) cases
+pub examples : map (λ (c : Case). backOf (tablesOf c) (ran c) (ran c .answer)) cases ≡ map (λ (c : Case). wantedBack (tablesOf c) (c .expected)) cases
 unfolding the-run
 examples = refl
 

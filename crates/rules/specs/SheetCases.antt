@@ -102,6 +102,6 @@ cases =
     ∷ record { sheet = long 32752 127 240; prints = refused9 }
     ∷ []
 
-examples : map (λ (c : Case). Treelist.printed (c .sheet)) cases ≡ map (λ (c : Case). c .prints) cases
+pub examples : map (λ (c : Case). Treelist.printed (c .sheet)) cases ≡ map (λ (c : Case). c .prints) cases
 unfolding the-run Questions.openAfter Sheet.numberAt Sheet.numbersAt Sheet.endOf Sheet.readable Sheet.read Listing.decimalIn Listing.decimal Listing.numbered Listing.line Listing.treeLine Listing.treeLines Listing.droppedLine Listing.droppedLines Listing.listing Treelist.printed
 examples = refl
