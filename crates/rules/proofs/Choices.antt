@@ -1,5 +1,5 @@
--- What a choice of the rules says of the kind or the shape it was made by: trivia alone is held, a greedy matcher is a greedy command's, and a body is opened by
--- its opener. Assumes nothing.
+-- What a choice of the rules says of the kind or the shape it was made by: trivia alone is held, a greedy matcher is a greedy command's, and a body
+-- is opened by its opener. Assumes nothing.
 use Prim.Native.Nat.{ℕ}
 use mathlib.Core.Path.{_≡_, refl, sym, ap, _∙_}
 use mathlib.Core.Bool.{Bool, true, false, cond, _&&_, _||_, false≢true}

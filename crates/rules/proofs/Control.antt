@@ -1,5 +1,5 @@
--- What every routine keeps: at each open node the dropped rows are those of its children so far. One law a routine, callees first, for whatever reads an item
--- inside a node; so for every level. Assumes nothing.
+-- What every routine keeps: at each open node the dropped rows are those of its children so far. One law a routine, callees first, for whatever reads
+-- an item inside a node; so for every level. Assumes nothing.
 use Prim.Native.Nat.{ℕ, zero, suc, _+_, _-_, _*_, _≤_, _<_}
 use mathlib.Core.Path.{_≡_, refl, sym, ap, _∙_}
 use mathlib.Core.Bool.{Bool, true, false, cond, not, _&&_, _||_, true≢false}

@@ -1,5 +1,5 @@
--- What was dropped and the tree with its places, at each open node: the rows so far are those of the children so far. Laws of how a level is opened, grows by
--- a child and is closed. Assumes nothing.
+-- What was dropped and the tree with its places, at each open node: the rows so far are those of the children so far. Laws of how a level is opened,
+-- grows by a child and is closed. Assumes nothing.
 use Prim.Native.Nat.{ℕ, _+_, _-_, _≤_}
 use mathlib.Core.Path.{_≡_, refl, sym, ap, _∙_}
 use mathlib.Core.List.{List, [], _∷_, _++_, append-assoc, append-nil}

@@ -1,5 +1,5 @@
--- The laws by which callers use the definition of a listing: a number's digits, the next row of a walk over rows, and a row's numbers as a part of its
--- table. Assumes nothing.
+-- The laws by which callers use the definition of a listing: a number's digits, the next row of a walk over rows, and a row's numbers as a part of
+-- its table. Assumes nothing.
 use Prim.Native.Nat.{ℕ, zero, suc, _+_, _*_, _-_, _/_, _%_, _^_, _≤_, _<_}
 use mathlib.Core.List.{List, [], _∷_, _++_}
 use mathlib.Core.Path.{_≡_}

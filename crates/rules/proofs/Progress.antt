@@ -1,5 +1,5 @@
--- A step of the cursor: behind it the cursor stands before a token or in the middle of a Word, and less is left to read. A Word's characters have a byte or
--- more each, and the last ends where the Word does. Assumes nothing.
+-- A step of the cursor: behind it the cursor stands before a token or in the middle of a Word, and less is left to read. A Word's characters have a
+-- byte or more each, and the last ends where the Word does. Assumes nothing.
 use Prim.Native.Nat.{ℕ, _+_, _-_, _≤_, _<_}
 use mathlib.Core.Path.{_≡_, sym, ap, _∙_}
 use mathlib.Core.Bool.{true}

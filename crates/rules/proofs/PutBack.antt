@@ -1,5 +1,5 @@
--- Where each token is a leaf, the parts of a split Word or one dropped row, putting back gives the token texts, and dropped rows rise by token: by induction
--- over the tokens. A dropped row is met before the next leaf is, and not again, as later places have larger counts. Assumes nothing.
+-- Where each token is a leaf, the parts of a split Word or one dropped row, putting back gives the token texts, and dropped rows rise by token: by
+-- induction over the tokens. A dropped row is met before the next leaf is, and not again, as later places have larger counts. Assumes nothing.
 use Prim.Native.Nat.{ℕ, suc, _+_, _-_, _≤_, _<_}
 use mathlib.Core.Path.{_≡_, refl, sym, ap, _∙_}
 use mathlib.Core.List.{List, [], _∷_, _++_, append-assoc}

@@ -1,5 +1,5 @@
--- How far reading has come, as leaves and dropped rows: a cursor stands before a token or in the middle of a Word, each leaf takes what is left of the token or
--- a part of a Word, each dropped row a token. Read to the end, that is the statement token by token. Assumes nothing.
+-- How far reading has come, as leaves and dropped rows: a cursor stands before a token or in the middle of a Word, each leaf takes what is left of
+-- the token or a part of a Word, each dropped row a token. Read to the end, that is the statement token by token. Assumes nothing.
 use Prim.Native.Nat.{ℕ, suc, _+_, _≤_, _<_}
 use mathlib.Core.Path.{_≡_}
 use mathlib.Core.Bool.{true}

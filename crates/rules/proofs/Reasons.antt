@@ -1,5 +1,5 @@
--- The reason of each dropped row fits its token's kind: trivia is a blank, a break or a comment, an opener opens a body, a closer is a \fi. By going down the
--- definition of what is dropped. Assumes nothing.
+-- The reason of each dropped row fits its token's kind: trivia is a blank, a break or a comment, an opener opens a body, a closer is a \fi. By going
+-- down the definition of what is dropped. Assumes nothing.
 use Prim.Native.Nat.{ℕ, zero, suc, _+_, _-_, _*_}
 use mathlib.Core.Path.{_≡_, refl}
 use mathlib.Core.Bool.{Bool, true, false, cond, _&&_, _||_, false≢true}

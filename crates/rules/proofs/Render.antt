@@ -1,5 +1,5 @@
--- The rows of what rowan's two stacks hold: of each open parent its start row and the children that stand before the next one's first. Laws of how that
--- grows and where it parts, up to a child of the innermost parent. Assumes nothing.
+-- The rows of what rowan's two stacks hold: of each open parent its start row and the children that stand before the next one's first. Laws of how
+-- that grows and where it parts, up to a child of the innermost parent. Assumes nothing.
 use Prim.Native.Nat.{ℕ, _≤_}
 use mathlib.Core.Path.{_≡_, refl, sym, ap, _∙_}
 use mathlib.Core.List.{List, [], _∷_, _++_, append-assoc, append-nil}

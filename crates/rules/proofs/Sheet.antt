@@ -1,5 +1,5 @@
--- The laws by which callers use the definition of a sheet: how many numbers are read, and that the sections of a sheet that is read lie inside it, since
--- each ends where the next begins and the last where the sheet does. Assumes nothing.
+-- The laws by which callers use the definition of a sheet: how many numbers are read, and that the sections of a sheet that is read lie inside it,
+-- since each ends where the next begins and the last where the sheet does. Assumes nothing.
 use Prim.Native.Nat.{ℕ, zero, suc, _+_, _*_, _/_, _%_, _≤_}
 use mathlib.Core.Bool.{true, and-eq-true-iff}
 use mathlib.Core.List.{List, [], _∷_, _++_}

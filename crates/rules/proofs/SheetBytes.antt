@@ -1,6 +1,6 @@
--- A sheet is read exactly when it is the bytes of tables. From tables to bytes: each section is found where the one before it ends, whatever stands around
--- it. From bytes to tables: what is cut out of a sheet of bytes from a place on, as a number or a section, has that part of the sheet as its bytes.
--- Assumes nothing.
+-- A sheet is read exactly when it is the bytes of tables. From tables to bytes: each section is found where the one before it ends, whatever stands
+-- around it. From bytes to tables: what is cut out of a sheet of bytes from a place on, as a number or a section, has that part of the sheet as its
+-- bytes. Assumes nothing.
 use Prim.Native.Nat.{ℕ, zero, suc, _+_, _*_, _/_, _%_, _^_, _≤_, _<_}
 use mathlib.Core.Bool.{true}
 use mathlib.Core.List.{List, [], _∷_, _++_, append-assoc, append-nil}

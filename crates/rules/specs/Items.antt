@@ -104,7 +104,8 @@ nameOnly s = eqb (s .form) formNone || (eqb (s .form) formFixed && eqb (s .value
 abbrev pub attachableCommand : Shape → Bool
 attachableCommand s = not (among (s .form) (formLeft1 ∷ formInfixGreedy ∷ formGreedy ∷ []))
 
--- "an item whose reading says attachable": `content`'s answer, which is fixed by the kind that the item begins with and, if it is a command, its shape
+-- "an item whose reading says attachable": `content`'s answer, which is fixed by the kind that the item begins with and, if it is a command, its
+-- shape
 abbrev pub attachableItem : Item → ℕ → Shape → Bool
 attachableItem plain kind s = not (among kind (Token.Ampersand ∷ Token.NewLine ∷ Token.LineBreak ∷ Token.Whitespace ∷ Token.LineComment ∷ Token.Hash ∷ Token.Asterisk ∷ Token.AtSign ∷ Token.Error ∷ []))
 attachableItem error kind s = true

@@ -1,5 +1,6 @@
--- Putting back: what a reader of a stored tree can do with its rows, the dropped rows, the text and the token rows, knowing nothing of how they were read.
--- "In every accepted run, put the dropped texts back among the leaf texts where the dropped list says: the token texts return, joined in order."
+-- Putting back: what a reader of a stored tree can do with its rows, the dropped rows, the text and the token rows, knowing nothing of how they were
+-- read. "In every accepted run, put the dropped texts back among the leaf texts where the dropped list says: the token texts return, joined in
+-- order."
 use Prim.Native.Nat.{ℕ, zero, suc, _+_, _≤_, _<_}
 use mathlib.Core.Path.{_≡_}
 use mathlib.Core.Bool.{cond}
@@ -59,7 +60,8 @@ abbrev pub droppedAfter : ℕ → List (List ℕ × List ℕ) → List ℕ
 droppedAfter k [] = []
 droppedAfter k (d ∷ ds) = cond (eqb (getD (d .0) 2 0) k) (d .1) [] ++ droppedAfter k ds
 
--- from the k-th leaf on: before each leaf's text those of the dropped rows whose count of leaves stands there, and likewise behind the last leaf's text
+-- from the k-th leaf on: before each leaf's text those of the dropped rows whose count of leaves stands there, and likewise behind the last leaf's
+-- text
 abbrev pub backFrom : ℕ → List (List ℕ) → List (List ℕ × List ℕ) → List ℕ
 backFrom k [] dropped = droppedAfter k dropped
 backFrom k (leaf ∷ more) dropped = droppedAfter k dropped ++ (leaf ++ backFrom (k + 1) more dropped)

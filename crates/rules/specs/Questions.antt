@@ -42,8 +42,8 @@ rangeAt tree row = record { start = cell Limits.treeWidth tree row 2; size = cel
 unfoldable pub isLeaf : List ℕ → List ℕ → ℕ → Bool
 isLeaf text tree row = tagged tagLeaf tree row && leb (rangeAt tree row .start + rangeAt tree row .size) (length text)
 
--- "The text of a leaf row comes back as that part of the caller's text; for a leaf outside it, another row or no row, as the empty part at the text's start."
--- A leaf of no bytes inside the text has the empty part at its own start
+-- "The text of a leaf row comes back as that part of the caller's text; for a leaf outside it, another row or no row, as the empty part at the text's
+-- start." A leaf of no bytes inside the text has the empty part at its own start
 unfoldable pub leafRange : List ℕ → List ℕ → ℕ → Range
 leafRange text tree row = cond (isLeaf text tree row) (rangeAt tree row) (record { start = 0; size = 0 })
 
@@ -72,7 +72,8 @@ unfoldable pub formula : List ℕ → ℕ → Option ℕ
 formula tree row = cond (tagged tagStart tree row && eqb (kindAt tree row) ItemFormula) (matchingFinish tree row) none
 
 -- "First and last token descend into the first and last child; an empty node there gives none".
--- A child's row is the token where it is a leaf; where it has the tag `edge` the child is a node, and what it has inside is asked for; else there is no child
+-- A child's row is the token where it is a leaf; where it has the tag `edge` the child is a node, and what it has inside is asked for; else there is
+-- no child
 abbrev pub descend : ℕ → ℕ → ℕ → Option ℕ → Option ℕ
 descend edge tag at inside = cond (eqb tag tagLeaf) (some at) (cond (eqb tag edge) inside none)
 

@@ -102,8 +102,8 @@ module _ (B : Builder) (source : Source) where
         ∷ [])
         p
 
-    -- `match_arguments` of a greedy command. "Start is .. a new mark inside greedy ones." "`[` and `(` are eaten plain. Last becomes the mark before each
-    -- opening brace's item, plain ones too, and each attachable item": that is what reading these as items does
+    -- `match_arguments` of a greedy command. "Start is .. a new mark inside greedy ones." "`[` and `(` are eaten plain. Last becomes the mark before
+    -- each opening brace's item, plain ones too, and each attachable item": that is what reading these as items does
     unfoldable pub greedyItems : Rule B
     greedyItems p =
         steps
@@ -253,8 +253,8 @@ module _ (B : Builder) (source : Source) where
     unfoldable pub content : Bool → Rule B
     content single p = contentFor (peek (source .tokens) (p .lexer)) single p
 
-  -- the knot. `contentAt (suc d)` is `content` inside a node below which d more may be opened. Level 0 stands for a node that is one too many, in which
-  -- nothing is read: a builder that counts open nodes refuses before that, so it is never reached (proofs/Depth.antt)
+  -- the knot. `contentAt (suc d)` is `content` inside a node below which d more may be opened. Level 0 stands for a node that is one too many, in
+  -- which nothing is read: a builder that counts open nodes refuses before that, so it is never reached (proofs/Depth.antt)
   unfoldable pub contentAt : ℕ → Bool → Rule B
   contentAt zero = λ single p. refused tooManyOpen (place B p)
   contentAt (suc d) = content (contentAt d)

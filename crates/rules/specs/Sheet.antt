@@ -52,8 +52,8 @@ statesAt sheet = endOf sheet (shapesAt sheet)
 abbrev pub wholeNumbers : List ℕ → ℕ → Bool
 wholeNumbers sheet at = eqb (numberAt sheet at % numberBytes) 0
 
--- "A sheet that is longer, of another version, cut short, followed by more, or with a table not of whole numbers" is refused: this one is none of these.
--- A sheet that is cut short has a section that ends past its end, and one that is followed by more ends behind its last section
+-- "A sheet that is longer, of another version, cut short, followed by more, or with a table not of whole numbers" is refused: this one is none of
+-- these. A sheet that is cut short has a section that ends past its end, and one that is followed by more ends behind its last section
 unfoldable pub readable : List ℕ → Bool
 readable sheet =
     leb (length sheet) mostBytes
