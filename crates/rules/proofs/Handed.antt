@@ -25,21 +25,13 @@ use Rattle.rules.specs.Token
 use Rattle.rules.proofs.Characters.{either}
 use Rattle.rules.proofs.Goes.{Goes, goes, stopped, Takes, done, _then_, _first_, from-goes, bind-goes, weaker-goes, cond-goes}
 use Rattle.rules.proofs.Progress.{next-stands, next-less, other-whole, char-some, char-within, part-stands, part-less}
-use Rattle.rules.proofs.Reached.{Sound, There, AtWord, Standing, whole-start, whole-length}
+use Rattle.rules.proofs.Reached.{partly, before, Sound, There, AtWord, Standing, whole-start, whole-length}
 
 -- ---- what a builder has to keep
 
 -- a leaf of a kind, with so many bytes of what is left of the next token
 abbrev pub leafAt : Source → ℕ → ℕ → Cursor → Leaf
 leafAt source kind size c = record { token = c .token; kind = kind; start = restStart (source .tokens) c; size = size }
-
--- the cursor in the middle of a Word, so many bytes on
-abbrev pub within : Cursor → ℕ → Cursor
-within c size = record { token = c .token; taken = c .taken + size }
-
--- before a token
-abbrev pub before : ℕ → Cursor
-before token = record { token = token; taken = 0 }
 
 pub record Handed (B : Builder) (source : Source) : Type 1 where
   -- it was handed all up to a cursor
@@ -60,7 +52,7 @@ pub record Handed (B : Builder) (source : Source) : Type 1 where
       → AtWord source c
       → 1 ≤ size
       → size < restLength (source .tokens) c
-      → Takes (Read c) (Read (within c size)) (B .leaf place (leafAt source kind size c))
+      → Takes (Read c) (Read (partly c size)) (B .leaf place (leafAt source kind size c))
   -- what is dropped is a token
   pub drops : (reason : ℕ) (c : Cursor) → There source c → c .taken ≡ 0 → (b : B .State) → Read c b → Read (eaten c) (B .drop (c .token) reason b)
 
@@ -221,7 +213,7 @@ module _ {B : Builder} {source : Source} (K : Handed B source) (sound : Sound so
     -- it is the last of the Word, or one of those before
     character-is : (P : Cursor → Type 0)
         → (size ≡ restLength (source .tokens) (p .lexer) → P (eaten (p .lexer)))
-        → (size < restLength (source .tokens) (p .lexer) → P (within (p .lexer) size))
+        → (size < restLength (source .tokens) (p .lexer) → P (partly (p .lexer) size))
         → P (consumed (source .tokens) size (p .lexer))
     unfolding consumed
     character-is P whole part =

@@ -26,9 +26,9 @@ use Rattle.rules.specs.SyntaxKind
 use Rattle.rules.specs.Tables.{tokenCount, kindAt}
 use Rattle.rules.specs.Token
 use Rattle.rules.proofs.Goes.{Goes, goes, stopped, Takes, done, _then_, _first_, from-goes, bind-goes, cond-goes}
-use Rattle.rules.proofs.Handed.{before, Handed, Anything, Follows, NoWord, seen, wider, knowing, Free, Next, start-if, finish-if, startAround-if, eat-if, eatIf-if, trivia-if, singleChar-if, oneIn-if, Held, ignore-if, finish-held, held-none, hold-held, extract-if, text-if, clauseLr-if, skippedBody-if, left1Command-if, endClause-if, rightClause-if}
+use Rattle.rules.proofs.Handed.{Handed, Anything, Follows, NoWord, seen, wider, knowing, Free, Next, start-if, finish-if, startAround-if, eat-if, eatIf-if, trivia-if, singleChar-if, oneIn-if, Held, ignore-if, finish-held, held-none, hold-held, extract-if, text-if, clauseLr-if, skippedBody-if, left1Command-if, endClause-if, rightClause-if}
 use Rattle.rules.proofs.Progress.{at-end, end-whole}
-use Rattle.rules.proofs.Reached.{Sound, There, AtWord, Standing}
+use Rattle.rules.proofs.Reached.{before, Sound, There, AtWord, Standing}
 
 -- a choice by a test, for what holds of both
 by-test : {A : Type 0} (P : A → Type 0) (t : Bool) (x y : A) → (t ≡ true → P x) → (t ≡ false → P y) → P (cond t x y)

@@ -21,9 +21,9 @@ use Rattle.rules.specs.Reading.{parse}
 use Rattle.rules.specs.Tables.{tokenCount}
 use Rattle.rules.proofs.Characters.{either}
 use Rattle.rules.proofs.Goes.{Goes, goes, stopped, Takes, cond-goes}
-use Rattle.rules.proofs.Handed.{leafAt, before, Handed}
+use Rattle.rules.proofs.Handed.{leafAt, Handed}
 use Rattle.rules.proofs.HandedItems.{parse-reads}
-use Rattle.rules.proofs.Reached.{Sound, There, Reached, nothing, takes-rest, takes-part, drops-it}
+use Rattle.rules.proofs.Reached.{Leaves, Dropped, before, Sound, There, Reached, nothing, takes-rest, takes-part, drops-it}
 
 -- ---- rows of a list of numbers
 
@@ -48,12 +48,8 @@ leaves-append [] ys = refl
 leaves-append (row ∷ xs) ys =
     either (eqb (getD row 0 0) Flat.tagLeaf) (λ e. rw (e, leaves-append xs ys)) (λ e. rw (e, leaves-append xs ys))
 
--- a leaf's start and length
-abbrev pub Range : Type 0
-Range = ℕ × ℕ
-
 -- the leaves of a tree's rows
-abbrev pub leavesIn : ℕ → List ℕ → List Range
+abbrev pub leavesIn : ℕ → List ℕ → Leaves
 leavesIn rows tree = leaves (rowsOf treeWidth rows tree)
 
 leaves-then : (n m : ℕ) (xs ys : List ℕ) → length xs ≡ n * treeWidth → leavesIn (n + m) (xs ++ ys) ≡ leavesIn n xs ++ leavesIn m ys
@@ -91,7 +87,7 @@ inserted kind row rows tree long =
 -- ---- the operations
 
 -- what was built has these leaves and these dropped rows
-pub record Tied (b : Built) (ls : List Range) (ds : List (List ℕ)) : Type 0 where
+pub record Tied (b : Built) (ls : Leaves) (ds : Dropped) : Type 0 where
   pub size : length (b .tree .tree) ≡ b .tree .rows * treeWidth
   pub leaves : leavesIn (b .tree .rows) (b .tree .tree) ≡ ls
   pub count : b .tree .leaves ≡ length ls
@@ -99,20 +95,20 @@ pub record Tied (b : Built) (ls : List Range) (ds : List (List ℕ)) : Type 0 wh
   pub dropped : rowsOf droppedWidth (length ds) (b .dropped) ≡ ds
 
 pub record HasRead (source : Source) (c : Cursor) (b : Built) : Type 0 where
-  pub ls : List Range
-  pub ds : List (List ℕ)
+  pub ls : Leaves
+  pub ds : Dropped
   pub tied : Tied b ls ds
   pub reached : Reached source ls ds c
 
 -- a row stands behind those that there were, with the leaf that it is, if it is one
-record Behind (b t : Rows) (row : List ℕ) (leaf : List Range) : Type 0 where
+record Behind (b t : Rows) (row : List ℕ) (leaf : Leaves) : Type 0 where
   rows : t .rows ≡ b .rows + 1
   tree : t .tree ≡ b .tree ++ row
   leaves : t .leaves ≡ b .leaves + length leaf
   long : length row ≡ treeWidth
   is : leavesIn 1 row ≡ leaf
 
-behind : (b : Built) (t : Rows) {row : List ℕ} {leaf ls ls′ : List Range} {ds : List (List ℕ)}
+behind : (b : Built) (t : Rows) {row : List ℕ} {leaf ls ls′ : Leaves} {ds : Dropped}
     → Tied b ls ds
     → Behind (b .tree) t row leaf
     → ls ++ leaf ≡ ls′
@@ -128,7 +124,7 @@ behind b t {row} {leaf} {ls} tied more all =
       size = rw (more .tree, more .rows) (omega arith);
       leaves =
           rw (more .rows, more .tree) (leaves-then (b .tree .rows) 1 (b .tree .tree) row size)
-          ∙ ap₂ (λ (x y : List Range). x ++ y) (tied .leaves) (more .is)
+          ∙ ap₂ (λ (x y : Leaves). x ++ y) (tied .leaves) (more .is)
           ∙ all;
       count = rw (sym all) (omega arith);
       long = tied .long;
@@ -226,7 +222,7 @@ module _ (room : ℕ) (source : Source) where
       let count : length (h .ds ++ (row ∷ [])) ≡ length (h .ds) + 1 = length-append (h .ds) (row ∷ []) in
       let longer = length-append (b .dropped) row in
       let long = h .tied .long in
-      let rows = rows-append droppedWidth (length (h .ds)) 1 (b .dropped) row long ∙ ap (λ (x : List (List ℕ)). x ++ (row ∷ [])) (h .tied .dropped) in
+      let rows = rows-append droppedWidth (length (h .ds)) 1 (b .dropped) row long ∙ ap (λ (x : Dropped). x ++ (row ∷ [])) (h .tied .dropped) in
       record {
         ls = h .ls;
         ds = h .ds ++ (row ∷ []);

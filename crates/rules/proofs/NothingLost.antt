@@ -19,10 +19,9 @@ use Rattle.rules.specs.Run.{accepted, over, afterReading, afterChecks, r
 use Rattle.rules.specs.Tables.{tokenCount}
 use Rattle.rules.proofs.Checks
 use Rattle.rules.proofs.Goes.{Goes, goes}
-use Rattle.rules.proofs.Handed.{before}
 use Rattle.rules.proofs.HandedRows.{HasRead, rows-front, rows-read}
 use Rattle.rules.proofs.PutBack.{put-back, rises}
-use Rattle.rules.proofs.Reached.{Sound, all-told}
+use Rattle.rules.proofs.Reached.{before, Sound, all-told}
 
 -- tables that passed the checks
 pub sound : (t : Tables) (dropped : ℕ) → Checks.Accepted t dropped → Sound (sourceOf t)
