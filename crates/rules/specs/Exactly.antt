@@ -60,7 +60,8 @@ module _ (source : Source) where
 
   unfoldable pub isBody : ℕ → ℕ → Bool
   isBody kind from =
-      (eqb kind SyntaxKind.ItemBlockComment && eqb (kindOf from) Token.IfFalse) || (eqb kind SyntaxKind.ItemTypstCode && eqb (kindOf from) Token.IfTypst)
+      (eqb kind SyntaxKind.ItemBlockComment && eqb (kindOf from) Token.IfFalse)
+      || (eqb kind SyntaxKind.ItemTypstCode && eqb (kindOf from) Token.IfTypst)
 
   -- "33 IfFalse, 34 IfTypst, 35 any other If": "Counting only `\iffalse` in a nested body" is a slip
   unfoldable pub opensIf : ℕ → Bool
@@ -100,7 +101,8 @@ module _ (source : Source) where
     -- of children of a command or a \begin that has read up to `behind`
     pub droppedPassing : ℕ → ℕ → Places → List ℕ
     droppedPassing behind leaves none = []
-    droppedPassing behind leaves (more t rest) = passedBefore behind t leaves ++ (droppedIn leaves t ++ droppedPassing (endOf t) (leaves + leavesIn t) rest)
+    droppedPassing behind leaves (more t rest) =
+        passedBefore behind t leaves ++ (droppedIn leaves t ++ droppedPassing (endOf t) (leaves + leavesIn t) rest)
 
   -- the dropped rows of a run with this tree
   abbrev pub dropped : Placed → List ℕ

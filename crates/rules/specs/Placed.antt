@@ -82,7 +82,12 @@ leafed l s = record { parents = s .parents; children = s .children ++ (leaf l �
 
 unfoldable pub opened : ℕ → ℕ → ℕ → Placing → Placing
 opened place kind first s =
-    record { parents = record { kind = kind; first = first; from = place } ∷ s .parents; children = s .children; leaves = s .leaves; dropped = s .dropped }
+    record {
+      parents = record { kind = kind; first = first; from = place } ∷ s .parents;
+      children = s .children;
+      leaves = s .leaves;
+      dropped = s .dropped;
+    }
 
 -- what was begun at a mark is begun at the place of the wrap: a command's node always begins at its name
 unfoldable pub openedAt : ℕ → ℕ → ℕ → Placing → Out Placing
@@ -102,7 +107,13 @@ closed place s =
 
 -- "Dropped row: token index, reason (1 trivia, 2 opener, 3 closer), leaves written before it."
 unfoldable pub noted : ℕ → ℕ → Placing → Placing
-noted token reason s = record { parents = s .parents; children = s .children; leaves = s .leaves; dropped = s .dropped ++ droppedRow token reason (s .leaves) }
+noted token reason s =
+    record {
+      parents = s .parents;
+      children = s .children;
+      leaves = s .leaves;
+      dropped = s .dropped ++ droppedRow token reason (s .leaves);
+    }
 
 abbrev pub placing : Builder
 placing =

@@ -92,7 +92,10 @@ pub data EachToken (tokens : List ℕ) : ℕ → ℕ → List (ℕ × ℕ) → L
   leaf : {i k : ℕ} {leaves : List (ℕ × ℕ)} {dropped : List (List ℕ)} → i < tokenCount tokens
       → EachToken tokens (i + 1) (k + 1) leaves dropped
       → EachToken tokens i k ((startAt tokens i, lengthAt tokens i) ∷ leaves) dropped
-  split : {i k : ℕ} {parts leaves : List (ℕ × ℕ)} {dropped : List (List ℕ)} → i < tokenCount tokens → kindAt tokens i ≡ Token.Word → Parts (startAt tokens i) (lengthAt tokens i) parts
+  split : {i k : ℕ} {parts leaves : List (ℕ × ℕ)} {dropped : List (List ℕ)}
+      → i < tokenCount tokens
+      → kindAt tokens i ≡ Token.Word
+      → Parts (startAt tokens i) (lengthAt tokens i) parts
       → EachToken tokens (i + 1) (k + length parts) leaves dropped
       → EachToken tokens i k (parts ++ leaves) dropped
   drops : {i k reason : ℕ} {leaves : List (ℕ × ℕ)} {dropped : List (List ℕ)} → i < tokenCount tokens

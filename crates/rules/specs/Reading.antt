@@ -26,7 +26,10 @@ module _ (B : Builder) (source : Source) where
 
   -- "Last becomes the mark before an item whose reading says attachable": what last is behind the item that begins at p and ends at q
   abbrev pub lastAfter : At B → At B → At B
-  lastAfter p q = withMarks B (q .list .start) (cond (attachable (kindAt (source .tokens) (place B p)) (source .shape (place B p))) (some (B .mark (p .built))) (q .list .last)) q
+  lastAfter p q =
+      withMarks B (q .list .start)
+      (cond (attachable (kindAt (source .tokens) (place B p)) (source .shape (place B p))) (some (B .mark (p .built))) (q .list .last))
+      q
 
   -- reads an item inside a node; the Bool says whether one character of a Word is enough
   module _ (inner : Bool → Rule B) where
@@ -35,7 +38,9 @@ module _ (B : Builder) (source : Source) where
     -- `item_list`'s loop: items up to the end, or a token whose kind stops them
     unfoldable pub items : (ℕ → Bool) → ℕ → Rule B
     items stop zero p = went p
-    items stop (suc n) p = cond (next B source (λ kind. cond (stop kind) false true) p) (bind (inner false p) (λ q. items stop n (lastAfter p q))) (went p)
+    items stop (suc n) p =
+        cond (next B source (λ kind. cond (stop kind) false true) p) (bind (inner false p) (λ q. items stop n (lastAfter p q)))
+        (went p)
 
     -- `item_list`: "Groups, environments and left-right bodies read a new list and then give back the parent's marks."
     unfoldable pub itemList : Scope → Rule B

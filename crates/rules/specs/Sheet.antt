@@ -81,8 +81,9 @@ read sheet = cond (readable sheet) (some (tablesOf sheet)) none
 abbrev pub unreadable : ℕ
 unreadable = 9
 
--- ---- the other way round: the bytes of tables. A sheet of at most 32,768 bytes is read exactly when it is the bytes of some tables, and it is those that
--- are read (`read-back`, `only-bytes`)
+-- ---- the other way round: the bytes of tables
+
+-- A sheet of at most 32,768 bytes is read exactly when it is the bytes of some tables, and it is those that are read (`read-back`, `only-bytes`)
 abbrev pub bytesOfNumber : ℕ → List ℕ
 bytesOfNumber n = n / 256 / 256 / 256 % 256 ∷ n / 256 / 256 % 256 ∷ n / 256 % 256 ∷ n % 256 ∷ []
 
