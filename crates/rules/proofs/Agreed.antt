@@ -4,4 +4,5 @@ pub use Rattle.rules.specs.Cases.{examples as formulas-agree}
 pub use Rattle.rules.specs.DroppedCases.{examples as dropped-rows-agree}
 pub use Rattle.rules.specs.Placed.{example as places-agree}
 pub use Rattle.rules.specs.PutBackCases.{examples as put-back-agrees}
+pub use Rattle.rules.specs.QuestionCases.{examples as questions-agree}
 pub use Rattle.rules.specs.SheetCases.{examples as sheets-agree}

@@ -25,6 +25,7 @@ pub mod Computed
 pub mod Notation
 pub mod Placed
 pub mod Exactly
+pub mod QuestionCases
 pub mod DroppedCases
 pub mod Sheet
 pub mod Listing
