@@ -50,7 +50,11 @@ sized n ((r ∷ rs) ∷ more) e m =
     ⊎-elim (λ p. let l = ap length p in (omega arith, omega arith)) (λ q. sized (suc (r .1)) more (k .rest) q) (List·Memᴰ·cases-cons m)
 
 -- a byte with which one of them begins is past all that went before
-high : (n b : ℕ) (bytes : List ℕ) (all : List (List Range)) {a : List Range} → climbs n all ≡ true → List·Memᴰ a all → begins a (b ∷ bytes) ≡ true → n ≤ b
+high : (n b : ℕ) (bytes : List ℕ) (all : List (List Range)) {a : List Range}
+    → climbs n all ≡ true
+    → List·Memᴰ a all
+    → begins a (b ∷ bytes) ≡ true
+    → n ≤ b
 high n b bytes [] e m h = absurd (List·Memᴰ·not-nil m)
 high n b bytes ([] ∷ more) e m h = absurd (false≢true e)
 high n b bytes ((r ∷ rs) ∷ more) e m h =
@@ -153,7 +157,8 @@ enough (suc n) (suc m) (b ∷ bytes) h k =
     (λ e.
     let some = eqb-false size 0 e in
     let left = length-drop size (b ∷ bytes) in
-    let same : characters n (drop size (b ∷ bytes)) ≡ characters m (drop size (b ∷ bytes)) = enough n m (drop size (b ∷ bytes)) (omega arith) (omega arith) in
+    let rest = drop size (b ∷ bytes) in
+    let same : characters n rest ≡ characters m rest = enough n m rest (omega arith) (omega arith) in
     rw same)
 
 -- ---- the first character of bytes and the rest of them
@@ -163,7 +168,8 @@ utf8-rest [] h = let k = char-fits [] in absurd (omega arith)
 utf8-rest (b ∷ bytes) h =
     let size = charLength (b ∷ bytes) in
     let left = length-drop size (b ∷ bytes) in
-    rw (eqb·suc-zero (length bytes), ne-eqb size 0 (λ e. omega arith)) (enough (length bytes) (length (drop size (b ∷ bytes))) (drop size (b ∷ bytes)) (omega arith) (omega arith))
+    let rest = drop size (b ∷ bytes) in
+    rw (eqb·suc-zero (length bytes), ne-eqb size 0 (λ e. omega arith)) (enough (length bytes) (length rest) rest (omega arith) (omega arith))
 
 pub utf8-none : (bytes : List ℕ) → 1 ≤ length bytes → charLength bytes ≡ 0 → isUtf8 bytes ≡ false
 unfolding isUtf8 characters
@@ -206,7 +212,10 @@ unfolding isUtf8
 well-formed bytes e = formed (length bytes) bytes e
 
 -- the first character of bytes that begin with an alternative's is that alternative's
-one-character : {a : List Range} (bytes rest : List ℕ) → List·Memᴰ a alternatives → Of a bytes → (1 ≤ length bytes) × (charLength (bytes ++ rest) ≡ length bytes)
+one-character : {a : List Range} (bytes rest : List ℕ)
+    → List·Memᴰ a alternatives
+    → Of a bytes
+    → (1 ≤ length bytes) × (charLength (bytes ++ rest) ≡ length bytes)
 unfolding charLength
 one-character [] rest m o = let k = sized 0 alternatives refl m in absurd (omega (arith, of-length o))
 one-character (b ∷ bytes) rest m o = (omega arith, only 0 b (bytes ++ rest) alternatives refl m (of-begins rest o) ∙ sym (of-length o))

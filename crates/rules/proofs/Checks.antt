@@ -133,7 +133,7 @@ unfolding withinLimits
 within-limits t e =
     let text = and-eq-true-iff (leb (length (t .text)) Limits.text) _ .0 e in
     let tokens = and-eq-true-iff (wholeRows Limits.tokenWidth Limits.tokens (t .tokens)) _ .0 (text .1) in
-    let others = and-eq-true-iff (wholeRows Limits.shapeWidth Limits.shapes (t .shapes)) (wholeRows Limits.stateWidth Limits.states (t .states)) .0 (tokens .1) in
+    let others = and-eq-true-iff (wholeRows Limits.shapeWidth Limits.shapes (t .shapes)) _ .0 (tokens .1) in
     record {
       text = leb-true _ _ (text .0);
       tokens = whole-rows _ _ _ (tokens .0);

@@ -1,5 +1,5 @@
--- What a choice of the rules says of the kind or the shape it was made by: trivia alone is held, a greedy matcher is a greedy command's, and a body is opened by
--- its opener. Assumes nothing.
+-- What a choice of the rules says of the kind or the shape it was made by: trivia alone is held, a greedy matcher is a greedy command's, and a body
+-- is opened by its opener. Assumes nothing.
 use Prim.Native.Nat.{ℕ}
 use mathlib.Core.Path.{_≡_, refl, sym, ap, _∙_}
 use mathlib.Core.Bool.{Bool, true, false, cond, _&&_, _||_, false≢true}
@@ -59,7 +59,9 @@ held-is-trivia states scope m kind e =
     (either (stops scope kind) at-end (tried _ (tryMatch states m Matcher.term))))))))
     e
 
-pub held-is-blank : (source : Source) (scope : Scope) (m : Matcher) (token : ℕ) → choose (source .states) scope m (kindOf source token) ≡ holds → isBlank source token ≡ true
+pub held-is-blank : (source : Source) (scope : Scope) (m : Matcher) (token : ℕ)
+    → choose (source .states) scope m (kindOf source token) ≡ holds
+    → isBlank source token ≡ true
 unfolding isTrivia isBlank
 held-is-blank source scope m token e = held-is-trivia (source .states) scope m (kindOf source token) e
 
@@ -76,26 +78,44 @@ counted : (t : Bool) (m : Matcher) → isGreedy m ≡ false → isGreedy (cond t
 counted true m never = refl
 counted false m never = never
 
+-- `startMatch`, from each of its tests on
+abbrev fromInfix : ℕ → Matcher
+fromInfix form = cond (eqb form formInfixGreedy) Matcher.greedy Matcher.nothing
+
+abbrev fromGlob : ℕ → ℕ → Matcher
+fromGlob form value = cond (eqb form formGlob) (Matcher.glob value) (fromInfix form)
+
+abbrev fromGreedy : ℕ → ℕ → Matcher
+fromGreedy form value = cond (eqb form formGreedy) Matcher.greedy (fromGlob form value)
+
+abbrev fromRange : ℕ → ℕ → Matcher
+fromRange form value = cond (eqb form formRange) (startAtMost value) (fromGreedy form value)
+
 infix-or : (form : ℕ) (t : Bool) → eqb form formInfixGreedy ≡ t → isGreedy (cond t Matcher.greedy Matcher.nothing) ≡ t || false
 infix-or form true e = refl
 infix-or form false e = refl
 
-glob-or : (form value : ℕ) (t : Bool) → eqb form formGlob ≡ t → isGreedy (cond t (Matcher.glob value) (cond (eqb form formInfixGreedy) Matcher.greedy Matcher.nothing)) ≡ eqb form formInfixGreedy || false
+glob-or : (form value : ℕ) (t : Bool)
+    → eqb form formGlob ≡ t
+    → isGreedy (cond t (Matcher.glob value) (fromInfix form)) ≡ eqb form formInfixGreedy || false
 glob-or form value true e = let is = eqb-true form formGlob e in rw is refl
 glob-or form value false e = infix-or form (eqb form formInfixGreedy) refl
 
-greedy-or : (form value : ℕ) (t : Bool) → eqb form formGreedy ≡ t
-    → isGreedy (cond t Matcher.greedy (cond (eqb form formGlob) (Matcher.glob value) (cond (eqb form formInfixGreedy) Matcher.greedy Matcher.nothing))) ≡ t || (eqb form formInfixGreedy || false)
+greedy-or : (form value : ℕ) (t : Bool)
+    → eqb form formGreedy ≡ t
+    → isGreedy (cond t Matcher.greedy (fromGlob form value)) ≡ t || (eqb form formInfixGreedy || false)
 greedy-or form value true e = refl
 greedy-or form value false e = glob-or form value (eqb form formGlob) refl
 
-range-or : (form value : ℕ) (t : Bool) → eqb form formRange ≡ t
-    → isGreedy (cond t (startAtMost value) (cond (eqb form formGreedy) Matcher.greedy (cond (eqb form formGlob) (Matcher.glob value) (cond (eqb form formInfixGreedy) Matcher.greedy Matcher.nothing)))) ≡ among form greedyForms
+range-or : (form value : ℕ) (t : Bool)
+    → eqb form formRange ≡ t
+    → isGreedy (cond t (startAtMost value) (fromGreedy form value)) ≡ among form greedyForms
 range-or form value true e = counted (eqb value 0) (Matcher.atMost value 0) refl ∙ sym (known form formRange e)
 range-or form value false e = greedy-or form value (eqb form formGreedy) refl
 
-fixed-or : (form value : ℕ) (t : Bool) → eqb form formFixed ≡ t
-    → isGreedy (cond t (startAtMost value) (cond (eqb form formRange) (startAtMost value) (cond (eqb form formGreedy) Matcher.greedy (cond (eqb form formGlob) (Matcher.glob value) (cond (eqb form formInfixGreedy) Matcher.greedy Matcher.nothing))))) ≡ among form greedyForms
+fixed-or : (form value : ℕ) (t : Bool)
+    → eqb form formFixed ≡ t
+    → isGreedy (cond t (startAtMost value) (fromRange form value)) ≡ among form greedyForms
 fixed-or form value true e = counted (eqb value 0) (Matcher.atMost value 0) refl ∙ sym (known form formFixed e)
 fixed-or form value false e = range-or form value (eqb form formRange) refl
 

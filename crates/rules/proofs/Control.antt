@@ -1,5 +1,5 @@
--- What every routine keeps: at each open node the dropped rows are those of its children so far. One law a routine, callees first, for whatever reads an item
--- inside a node; so for every level. Assumes nothing.
+-- What every routine keeps: at each open node the dropped rows are those of its children so far. One law a routine, callees first, for whatever reads
+-- an item inside a node; so for every level. Assumes nothing.
 use Prim.Native.Nat.{ℕ, zero, suc, _+_, _-_, _*_, _≤_, _<_}
 use mathlib.Core.Path.{_≡_, refl, sym, ap, _∙_}
 use mathlib.Core.Bool.{Bool, true, false, cond, not, _&&_, _||_, true≢false}
@@ -19,7 +19,7 @@ use Rattle.rules.specs.Limits
 use Rattle.rules.specs.Matcher.{Matcher, startMatch, isGreedy, formLeft1, formInfixGreedy}
 use Rattle.rules.specs.Outcome.{Out, went, bind, greedyEnvironment, markBeforeNode, tooManyOpen}
 use Rattle.rules.specs.Placed.{Placed, Places, leaf, node, none, more, places, leavesIn, leavesAll, Placing, firstOf, leafed, opened, openedAt, closed, noted, placing, nothing}
-use Rattle.rules.specs.Position.{Shape, Source, At, place, asked, steps, withMarks, holdingNone, start, finish, wrap}
+use Rattle.rules.specs.Position.{Shape, Source, At, place, asked, steps, withMarks, holdingNone, start, startAt, finish, wrap}
 use Rattle.rules.specs.Reading.{items, itemList, itemGroup, piece, argument, chosen, choiceFor, arguments, matchArguments, greedyItems, greedyArgument, greedyCommand, matchedCommand, commandOf, environmentArguments, beginClause, environmentItem, itemLr, script, attachmentAt, attachTo, attachComponent, readItem, contentFor, content, contentAt, parse}
 use Rattle.rules.specs.Routines.{eatAs, eat, eatIf, eatWhile, turns, trivia, singleChar, oneIn, holdTrivia, dropFrom, ignoreHoldingTrivia, leavesFrom, extractHoldingTrivia, text, delimiterOf, delimiter, clauseLr, dropNext, eatBodyOfIfs, skippedBody, startAround, orElse, left1Command, argumentBegins, argumentEnds, argumentNode, endClause, rightClause}
 use Rattle.rules.specs.Rowan.{markPastLast}
@@ -29,7 +29,7 @@ use Rattle.rules.specs.SyntaxKind
 use Rattle.rules.specs.Tables.{tokenCount}
 use Rattle.rules.specs.Token
 use Rattle.rules.proofs.Choices.{held-is-blank, greedyForms, greedy-is, name-not-greedy, left1-not-greedy, infix-greedy, Fits, item-fits}
-use Rattle.rules.proofs.Goes.{Goes, goes, stopped, Takes, done, _then_, _first_, from-goes, bind-goes, weaker-goes, cond-goes, steps-go}
+use Rattle.rules.proofs.Goes.{Goes, goes, stopped, Takes, Line, done, _then_, _first_, from-goes, bind-goes, weaker-goes, cond-goes, steps-go}
 use Rattle.rules.proofs.Levels.{lastEnd, lastEnd-more, passing-more, Ground, below, Level, level-opens, Grown, level-grows, leaf-grows, close-grows, In, in-opens, in-grows, in-leaf, Cut, in-cut, wrapped}
 
 -- a rule over the builder that notes places
@@ -51,18 +51,36 @@ module _ (source : Source) where
   abbrev Here : Ground → At placing → Type 0
   Here g p = In source g (p .built)
 
-  -- a rule keeps it, at whatever node is open
+  -- a rule keeps it, at whatever node is open; or where something holds of the position
   abbrev Keep : Rule → Type 0
   Keep f = (g : Ground) → Takes (Here g) (Here g) f
 
+  abbrev KeepIf : (At placing → Type 0) → Rule → Type 0
+  KeepIf fits f = (g : Ground) (p : At placing) → fits p → Here g p → Goes (Here g) (f p)
+
+  -- the dropped rows of a node's children, where so many leaves stand before it
+  abbrev Rows : Type 0
+  Rows = ℕ → Places → List ℕ
+
+  -- what else holds of the children so far, and of the position
+  abbrev Also : Type 1
+  Also = List Placed → At placing → Type 0
+
   -- inside a node that was begun at `g`'s level, with the rows of its children so far; and more of it
-  record Within (rows : ℕ → Places → List ℕ) (also : List Placed → At placing → Type 0) (g : Ground) (kind from : ℕ) (p : At placing) : Type 0 where
+  record Within (rows : Rows) (also : Also) (g : Ground) (kind from : ℕ) (p : At placing) : Type 0 where
     around : Placing
     outside : In source g around
     level : Level (rows (around .leaves)) (below kind from around) (p .built)
     holding : also (level .inside) p
 
-  abbrev Any : List Placed → At placing → Type 0
+  -- inside the same node, on another level
+  inside : {rows rows′ : Rows} {also also′ : Also} {g : Ground} {kind from : ℕ} {p q : At placing} (h : Within rows also g kind from p)
+      (level : Level (rows′ (h .around .leaves)) (below kind from (h .around)) (q .built))
+      → also′ (level .inside) q
+      → Within rows′ also′ g kind from q
+  inside h level holding = record { around = h .around; outside = h .outside; level = level; holding = holding }
+
+  abbrev Any : Also
   Any us p = Unit {0}
 
   -- inside a node that passes nothing itself
@@ -70,7 +88,7 @@ module _ (source : Source) where
   Under g kind from p = Within (droppedAll source) Any g kind from p
 
   under : {f : Rule} → Keep f → (g : Ground) (kind from : ℕ) → Takes (Under g kind from) (Under g kind from) f
-  under keep g kind from p h = weaker-goes (λ q level. record { around = h .around; outside = h .outside; level = level; holding = tt }) (keep (below kind from (h .around)) p (h .level))
+  under keep g kind from p h = weaker-goes (λ q level. inside h level tt) (keep (below kind from (h .around)) p (h .level))
 
   pub record Plain (kind from : ℕ) : Type 0 where
     pub body : isBody source kind from ≡ false
@@ -80,20 +98,50 @@ module _ (source : Source) where
   unfolding isBody passes
   other kind from e =
       let both =
-      neither (eqb kind SyntaxKind.ItemBegin) (eqb kind SyntaxKind.ItemCmd) (eqb kind SyntaxKind.ItemBlockComment) (eqb kind SyntaxKind.ItemTypstCode) (eqb (kindOf source from) Token.IfFalse) (eqb (kindOf source from) Token.IfTypst)
-      (not (greedyName source from)) e in
+      neither
+      (eqb kind SyntaxKind.ItemBegin) (eqb kind SyntaxKind.ItemCmd) (eqb kind SyntaxKind.ItemBlockComment) (eqb kind SyntaxKind.ItemTypstCode)
+      (eqb (kindOf source from) Token.IfFalse) (eqb (kindOf source from) Token.IfTypst) (not (greedyName source from))
+      e in
       record { body = both .0; passing = both .1 }
 
   start-under : (kind : ℕ) (g : Ground) (p : At placing) → Here g p → Goes (Under g kind (place placing p)) (start placing kind p)
-  start-under kind g p h = goes (record { around = p .built; outside = h; level = in-opens source kind (place placing p) (p .built); holding = tt })
+  start-under kind g p h =
+      goes (record { around = p .built; outside = h; level = in-opens source kind (place placing p) (p .built); holding = tt })
 
   finish-in : {g : Ground} {kind from : ℕ} → Plain kind from → Takes (Under g kind from) (Here g) (finish placing kind tt)
   unfolding droppedIn
-  finish-in ordinary p h = goes (in-grows source (h .outside) (close-grows (place placing p) (h .level)) (sym (rw (ordinary .body, ordinary .passing))))
+  finish-in ordinary p h =
+      let grown = close-grows (place placing p) (h .level) in
+      goes (in-grows source (h .outside) grown (sym (rw (ordinary .body, ordinary .passing))))
 
-  -- a node around routines that keep it
-  node-in : {f : Rule} (kind : ℕ) → among kind special ≡ false → Keep f → (g : Ground) (p : At placing) → Here g p → Goes (Here g) (steps (start placing kind ∷ f ∷ finish placing kind tt ∷ []) p)
-  node-in kind ordinary keep g p h = from-goes (start-under kind g p h first under keep g kind (place placing p) then finish-in (other kind (place placing p) ordinary) then done)
+  -- rules that keep it, one after the other
+  data Kept : List Rule → Type 0 where
+    no-more : Kept []
+    _and_ : {f : Rule} {fs : List Rule} → Keep f → Kept fs → Kept (f ∷ fs)
+
+  infixr 20 _and_
+  -- inside a node, and then its end
+  kept-line : {fs : List Rule} {g : Ground} {kind from : ℕ}
+      → Kept fs
+      → Plain kind from
+      → Line (Under g kind from) (Here g) (fs ++ (finish placing kind tt ∷ []))
+  kept-line no-more ordinary = finish-in ordinary then done
+  kept-line {g} {kind} {from} (keep and rest) ordinary = under keep g kind from then kept-line rest ordinary
+
+  -- a node that is begun so, around rules that keep it
+  begun-in : (f : Rule) {fs : List Rule} {g : Ground} {kind : ℕ} (p : At placing)
+      → Goes (Under g kind (place placing p)) (f p)
+      → Plain kind (place placing p)
+      → Kept fs
+      → Goes (Here g) (steps (f ∷ (fs ++ (finish placing kind tt ∷ []))) p)
+  begun-in f p begun ordinary kept = from-goes (begun first kept-line kept ordinary)
+
+  -- a node around rules that keep it
+  node-in : {fs : List Rule} (kind : ℕ)
+      → among kind special ≡ false
+      → Kept fs
+      → Keep (steps (start placing kind ∷ (fs ++ (finish placing kind tt ∷ []))))
+  node-in kind ordinary kept g p h = begun-in (start placing kind) p (start-under kind g p h) (other kind (place placing p) ordinary) kept
 
   -- ---- routines without an item inside
 
@@ -128,7 +176,7 @@ module _ (source : Source) where
 
   oneIn-in : (kind : ℕ) → among kind special ≡ false → Keep (oneIn placing source kind)
   unfolding oneIn
-  oneIn-in kind ordinary g p h = node-in kind ordinary eat-in g p h
+  oneIn-in kind ordinary g p h = node-in kind ordinary (eat-in and no-more) g p h
 
   leavesFrom-in : (n i : ℕ) → Keep (leavesFrom placing source n i)
   unfolding leavesFrom
@@ -146,9 +194,7 @@ module _ (source : Source) where
 
   text-in : Keep (text placing source)
   unfolding text
-  text-in g p h =
-      let from = place placing p in
-      from-goes (start-under SyntaxKind.ItemText g p h first under eat-in g SyntaxKind.ItemText from then under (eatAll-in isTextComponent) g SyntaxKind.ItemText from then finish-in (other SyntaxKind.ItemText from refl) then done)
+  text-in g p h = node-in SyntaxKind.ItemText refl (eat-in and eatAll-in isTextComponent and no-more) g p h
 
   delimiterOf-in : (o : Option ℕ) → Keep (delimiterOf placing source o)
   delimiterOf-in none g p h = goes h
@@ -164,46 +210,51 @@ module _ (source : Source) where
 
   clauseLr-in : Keep (clauseLr placing source)
   unfolding clauseLr
-  clauseLr-in g p h =
-      let from = place placing p in
-      from-goes (start-under SyntaxKind.ClauseLR g p h
-      first under eat-in g SyntaxKind.ClauseLR from
-      then under trivia-in g SyntaxKind.ClauseLR from
-      then under delimiter-in g SyntaxKind.ClauseLR from
-      then finish-in (other SyntaxKind.ClauseLR from refl)
-      then done)
+  clauseLr-in g p h = node-in SyntaxKind.ClauseLR refl (eat-in and trivia-in and delimiter-in and no-more) g p h
 
   -- ---- skipped bodies
 
-  abbrev bodyRows : ℕ → Option ℕ → ℕ → Places → List ℕ
-  bodyRows from closer n inside = droppedRow from reasonOpener n ++ closerRow source closer (n + leavesAll inside)
+  abbrev bodyRows : ℕ → Option ℕ → Rows
+  bodyRows from closer n us = droppedRow from reasonOpener n ++ closerRow source closer (n + leavesAll us)
 
   -- inside a body whose opener is dropped, and whose closer too if there is one
   record Body (closer : Option ℕ) (g : Ground) (kind from : ℕ) (p : At placing) : Type 0 where
     has : Within (bodyRows from closer) Any g kind from p
 
+  abbrev count : ℕ
+  count = tokenCount (source .tokens)
+
   -- which \fi closes it, from a token on
   abbrev closingFrom : ℕ → ℕ → Option ℕ
-  closingFrom nested token = closing source (tokenCount (source .tokens) - token) nested token
+  closingFrom nested token = closing source (count - token) nested token
 
   module _ (g : Ground) (kind from : ℕ) where
-    level-eaten : {n : ℕ} {ground : Ground} {b : Placing} (l : Leaf) → Level (bodyRows from none n) ground b → Level (bodyRows from none n) ground (leafed l b)
+    level-eaten : {n : ℕ} {ground : Ground} {b : Placing} (l : Leaf)
+        → Level (bodyRows from none n) ground b
+        → Level (bodyRows from none n) ground (leafed l b)
     level-eaten {b} l h = level-grows h (leaf-grows l b) refl
 
-    level-closed : {n : ℕ} {ground : Ground} {b : Placing} (token : ℕ) → n ≡ ground .leaves → Level (bodyRows from none n) ground b → Level (bodyRows from (some token) n) ground (noted token reasonCloser b)
+    level-closed : {n : ℕ} {ground : Ground} {b : Placing} (token : ℕ)
+        → n ≡ ground .leaves
+        → Level (bodyRows from none n) ground b
+        → Level (bodyRows from (some token) n) ground (noted token reasonCloser b)
     unfolding noted
     level-closed {n} {ground} token e l =
+        let opener = droppedRow from reasonOpener n in
+        let closer = droppedRow token reasonCloser (n + leavesAll (places (l .inside))) in
         record {
           inside = l .inside;
           parents = l .parents;
           children = l .children;
           leaves = l .leaves;
-          dropped = rw (l .dropped, l .leaves, ← e) (append-assoc (ground .dropped) (droppedRow from reasonOpener n) (droppedRow token reasonCloser (n + leavesAll (places (l .inside)))));
+          dropped = rw (l .dropped, l .leaves, ← e) (append-assoc (ground .dropped) opener closer);
         }
 
-    close-body : (p : At placing) → Body none g kind from p → Goes (Body (some (place placing p)) g kind from) (dropNext placing source reasonCloser p)
+    close-body : (p : At placing)
+        → Body none g kind from p
+        → Goes (Body (some (place placing p)) g kind from) (dropNext placing source reasonCloser p)
     unfolding dropNext
-    close-body p h = let w = h .has in goes (record { has = record { around = w .around; outside = w .outside; level = level-closed (place placing p) refl (w .level); holding = tt } })
+    close-body p h = goes (record { has = inside (h .has) (level-closed (place placing p) refl (h .has .level)) tt })
 
     -- a choice of the routine beside the same choice of the definition
     cond-body : (t : Bool) {closer closer′ : Option ℕ} {x y : Out (At placing)}
@@ -215,47 +266,63 @@ module _ (source : Source) where
 
     -- what is shown of so many turns
     abbrev Turns : ℕ → Type 0
-    Turns n = (nested : ℕ) (p : At placing) → tokenCount (source .tokens) - place placing p ≤ n → Body none g kind from p → Goes (Body (closingFrom nested (place placing p)) g kind from) (eatBodyOfIfs placing source n nested p)
+    Turns n = (nested : ℕ) (p : At placing)
+        → count - place placing p ≤ n
+        → Body none g kind from p
+        → Goes (Body (closingFrom nested (place placing p)) g kind from) (eatBodyOfIfs placing source n nested p)
 
     -- a token is eaten, and then so many turns
-    eaten-body : (n nested : ℕ) → Turns n → (p : At placing) → tokenCount (source .tokens) - (place placing p + 1) ≤ n → Body none g kind from p
-        → Goes (Body (closingFrom nested (place placing p + 1)) g kind from) (bind (eat placing source p) (λ q. eatBodyOfIfs placing source n nested q))
-    unfolding eat eatAs
-    eaten-body n nested rest p few h = let w = h .has in rest nested _ few (record { has = record { around = w .around; outside = w .outside; level = level-eaten _ (w .level); holding = tt } })
+    abbrev eatThen : ℕ → ℕ → Rule
+    eatThen n nested p = bind (eat placing source p) (λ q. eatBodyOfIfs placing source n nested q)
 
-    -- a turn, at a token or at the end
-    turn-body : (n nested : ℕ) → Turns n → (p : At placing) (t : Bool) → ltb (place placing p) (tokenCount (source .tokens)) ≡ t → tokenCount (source .tokens) - place placing p ≤ suc n → Body none g kind from p
-        → let o = cond t (some (kindOf source (place placing p))) none in
-        Goes (Body (closingFrom nested (place placing p)) g kind from)
-        (cond (asked (eqb Token.EndIf) o)
-        (cond (eqb nested 0) (dropNext placing source reasonCloser p) (bind (eat placing source p) (λ q. eatBodyOfIfs placing source n (nested - 1) q)))
-        (cond (asked isIf o) (bind (eat placing source p) (λ q. eatBodyOfIfs placing source n (nested + 1) q))
-        (cond (asked (λ kind. true) o) (bind (eat placing source p) (λ q. eatBodyOfIfs placing source n nested q)) (went p))))
+    eaten-body : (n nested : ℕ) → Turns n → (p : At placing)
+        → count - (place placing p + 1) ≤ n
+        → Body none g kind from p
+        → Goes (Body (closingFrom nested (place placing p + 1)) g kind from) (eatThen n nested p)
+    unfolding eat eatAs
+    eaten-body n nested rest p few h = rest nested _ few (record { has = inside (h .has) (level-eaten _ (h .has .level)) tt })
+
+    -- a turn, where this token is next or none
+    abbrev turnAt : Option ℕ → ℕ → ℕ → Rule
+    turnAt o n nested p =
+        cond (asked (eqb Token.EndIf) o)
+        (cond (eqb nested 0) (dropNext placing source reasonCloser p) (eatThen n (nested - 1) p))
+        (cond (asked isIf o) (eatThen n (nested + 1) p) (cond (asked (λ kind. true) o) (eatThen n nested p) (went p)))
+
+    turn-body : (n nested : ℕ) → Turns n → (p : At placing) (t : Bool)
+        → ltb (place placing p) count ≡ t
+        → count - place placing p ≤ suc n
+        → Body none g kind from p
+        → Goes (Body (closingFrom nested (place placing p)) g kind from) (turnAt (cond t (some (kindOf source (place placing p))) none) n nested p)
     unfolding closing opensIf
     turn-body n nested rest p true e few h =
-        let more = ltb-true (place placing p) (tokenCount (source .tokens)) e in
-        let one : tokenCount (source .tokens) - place placing p ≡ suc (tokenCount (source .tokens) - (place placing p + 1)) = omega arith in
-        let fewer : tokenCount (source .tokens) - (place placing p + 1) ≤ n = omega arith in
+        let at = place placing p in
+        let more = ltb-true at count e in
+        let one : count - at ≡ suc (count - (at + 1)) = omega arith in
+        let fewer : count - (at + 1) ≤ n = omega arith in
         rw one
-        (cond-body (eqb Token.EndIf (kindOf source (place placing p)))
+        (cond-body (eqb Token.EndIf (kindOf source at))
         (λ _. cond-body (eqb nested 0) (λ _. close-body p h) (λ _. eaten-body n (nested - 1) rest p fewer h))
-        (λ _. cond-body (opensIf source (place placing p)) (λ _. eaten-body n (nested + 1) rest p fewer h) (λ _. eaten-body n nested rest p fewer h)))
+        (λ _. cond-body (opensIf source at) (λ _. eaten-body n (nested + 1) rest p fewer h) (λ _. eaten-body n nested rest p fewer h)))
     turn-body n nested rest p false e few h =
-        let past = ltb-false (place placing p) (tokenCount (source .tokens)) e in
-        let nothing-left : tokenCount (source .tokens) - place placing p ≡ 0 = omega arith in
+        let past = ltb-false (place placing p) count e in
+        let nothing-left : count - place placing p ≡ 0 = omega arith in
         rw nothing-left (goes h)
 
     eatBodyOfIfs-body : (n : ℕ) → Turns n
     unfolding eatBodyOfIfs peek closing
-    eatBodyOfIfs-body zero nested p few h = let nothing-left : tokenCount (source .tokens) - place placing p ≡ 0 = omega arith in rw nothing-left (goes h)
-    eatBodyOfIfs-body (suc n) nested p few h = turn-body n nested (eatBodyOfIfs-body n) p (ltb (place placing p) (tokenCount (source .tokens))) refl few h
+    eatBodyOfIfs-body zero nested p few h = let nothing-left : count - place placing p ≡ 0 = omega arith in rw nothing-left (goes h)
+    eatBodyOfIfs-body (suc n) nested p few h = turn-body n nested (eatBodyOfIfs-body n) p (ltb (place placing p) count) refl few h
 
   -- the node is begun and its opener dropped
-  level-body : (kind from : ℕ) (b : Placing) → Level (bodyRows from none (b .leaves)) (below kind from b) (noted from reasonOpener (opened from kind (length (b .children)) b))
+  level-body : (kind from : ℕ) (b : Placing)
+      → Level (bodyRows from none (b .leaves)) (below kind from b) (noted from reasonOpener (opened from kind (length (b .children)) b))
   unfolding noted opened leavesAll
   level-body kind from b = record { inside = []; parents = refl; children = sym (append-nil (b .children)); leaves = omega arith; dropped = refl }
 
-  finish-body : {g : Ground} {kind from : ℕ} → isBody source kind from ≡ true → Takes (Body (closerOf source from) g kind from) (Here g) (finish placing kind tt)
+  finish-body : {g : Ground} {kind from : ℕ}
+      → isBody source kind from ≡ true
+      → Takes (Body (closerOf source from) g kind from) (Here g) (finish placing kind tt)
   unfolding droppedIn
   finish-body {from} body p h =
       let w = h .has in
@@ -265,23 +332,27 @@ module _ (source : Source) where
   enough : (count token : ℕ) → count - token ≤ (count - token) * (Limits.text + 1) - 0
   enough count token = omega arith
 
-  skippedBody-in : (kind : ℕ) (g : Ground) (p : At placing) → isBody source kind (place placing p) ≡ true → Here g p → Goes (Here g) (skippedBody placing source kind p)
+  skippedBody-in : (kind : ℕ) → KeepIf (λ p. isBody source kind (place placing p) ≡ true) (skippedBody placing source kind)
   unfolding skippedBody steps dropNext left
   skippedBody-in kind g p body h =
       let from = place placing p in
-      bind-goes (eatBodyOfIfs-body g kind from _ 0 _ (enough (tokenCount (source .tokens)) (from + 1)) (record { has = record { around = p .built; outside = h; level = level-body kind from (p .built); holding = tt } }))
+      bind-goes (eatBodyOfIfs-body g kind from _ 0 _ (enough count (from + 1)) (record {
+        has = record { around = p .built; outside = h; level = level-body kind from (p .built); holding = tt };
+      }))
       (steps-go (finish-body body then done))
 
   -- ---- wraps
 
   -- inside a node that was begun at the place of this position
-  abbrev Begun : (ℕ → Places → List ℕ) → Ground → ℕ → ℕ → At placing → Type 0
+  abbrev Begun : Rows → Ground → ℕ → ℕ → At placing → Type 0
   Begun rows g kind from p = Within rows (λ us q. place placing q ≡ from) g kind from p
 
   -- what is asked of rows, so that they are nothing of no child, and of an argument that a wrap closes the rows of what stood there
-  record Wraps (rows : ℕ → Places → List ℕ) (from : ℕ) : Type 0 where
+  record Wraps (rows : Rows) (from : ℕ) : Type 0 where
     of-none : (n : ℕ) → rows n none ≡ []
-    of-argument : (n : ℕ) (us : List Placed) → rows n (places (node SyntaxKind.ClauseArgument from from (places us) ∷ [])) ≡ droppedAll source n (places us)
+    of-argument :
+        (n : ℕ) (us : List Placed)
+        → rows n (places (node SyntaxKind.ClauseArgument from from (places us) ∷ [])) ≡ droppedAll source n (places us)
 
   wraps-all : (from : ℕ) → Wraps (droppedAll source) from
   unfolding droppedIn isBody passes
@@ -293,8 +364,14 @@ module _ (source : Source) where
       let nothing-between : from - from ≡ 0 = omega arith in
       record { of-none = λ n. refl; of-argument = λ n us. rw nothing-between (append-nil (droppedAll source n (places us))) }
 
-  start-begun : (rows : ℕ → Places → List ℕ) (kind : ℕ) (g : Ground) (p : At placing) → Wraps rows (place placing p) → Here g p → Goes (Begun rows g kind (place placing p)) (start placing kind p)
-  start-begun rows kind g p wraps h = goes (record { around = p .built; outside = h; level = level-opens (rows (p .built .leaves)) (wraps .of-none (p .built .leaves)) kind (place placing p) (p .built); holding = refl })
+  start-begun : (rows : Rows) (kind : ℕ) (g : Ground) (p : At placing)
+      → Wraps rows (place placing p)
+      → Here g p
+      → Goes (Begun rows g kind (place placing p)) (start placing kind p)
+  start-begun rows kind g p wraps h =
+      let n = p .built .leaves in
+      let level = level-opens (rows n) (wraps .of-none n) kind (place placing p) (p .built) in
+      goes (record { around = p .built; outside = h; level = level; holding = refl })
 
   -- a node begins at a mark, if that lies neither past the last child nor before the innermost node's first
   record AtMark (place kind mark : ℕ) (s after : Placing) : Type 0 where
@@ -314,26 +391,32 @@ module _ (source : Source) where
       let low : length (g .base) ≤ mark = rw (h .parents) at (at .low) in
       in-cut source mark h low (at .high)
 
+  -- the two openings of a wrap: where each stands, and what it opened
+  record OpenedAt (kind mark : ℕ) (p q : At placing) : Type 0 where
+    at : AtMark (place placing p) kind mark (p .built) (q .built)
+    here : place placing q ≡ place placing p
+
+  opened-at : (kind mark : ℕ) (p : At placing) → Goes (OpenedAt kind mark p) (startAt placing kind mark p)
+  opened-at kind mark p = bind-goes (at-mark (place placing p) kind mark (p .built)) (λ s at. goes (record { at = at; here = refl }))
+
   -- a wrap: what stood before the mark is around its node
-  wrap-begun : (rows : ℕ → Places → List ℕ) (kind mark : ℕ) (g : Ground) (p : At placing) → Wraps rows (place placing p) → Here g p → Goes (Begun rows g kind (place placing p)) (wrap placing kind mark p)
+  wrap-begun : (rows : Rows) (kind mark : ℕ) (g : Ground) (p : At placing)
+      → Wraps rows (place placing p)
+      → Here g p
+      → Goes (Begun rows g kind (place placing p)) (wrap placing kind mark p)
   unfolding wrap
   wrap-begun rows kind mark g p wraps h =
       let from = place placing p in
-      bind-goes {Q = λ q. (AtMark from kind mark (p .built) (q .built)) × (place placing q ≡ from)} (bind-goes (at-mark from kind mark (p .built)) (λ s at. goes (at, refl)))
-      (λ outer o. bind-goes {Q = λ q. (AtMark (place placing outer) SyntaxKind.ClauseArgument mark (outer .built) (q .built)) × (place placing q ≡ place placing outer)}
-      (bind-goes (at-mark (place placing outer) SyntaxKind.ClauseArgument mark (outer .built)) (λ s at. goes (at, refl)))
-      (λ inner i.
-      let cut = cut-at h (o .0) in
+      bind-goes (opened-at kind mark p) (λ outer o. bind-goes (opened-at SyntaxKind.ClauseArgument mark outer) (λ inner i.
+      let cut = cut-at h (o .at) in
       let n = cut .before .leaves in
-      let built : inner .built ≡ opened from SyntaxKind.ClauseArgument mark (opened from kind mark (p .built)) = rw (i .0 .is, o .0 .is, o .1) in
-      goes (record {
-        around = cut .before;
-        outside = cut .level;
-        level = rw (built, i .1, o .1) (wrapped source rows from kind mark cut (wraps .of-none n) (wraps .of-argument n (cut .since)));
-        holding = i .1 ∙ o .1;
-      })))
+      let built : inner .built ≡ opened from SyntaxKind.ClauseArgument mark (opened from kind mark (p .built)) = rw (i .at .is, o .at .is, o .here) in
+      let level = wrapped source rows from kind mark cut (wraps .of-none n) (wraps .of-argument n (cut .since)) in
+      goes (record { around = cut .before; outside = cut .level; level = rw (built, i .here, o .here) level; holding = i .here ∙ o .here })))
 
-  startAround-begun : (rows : ℕ → Places → List ℕ) (kind : ℕ) (o : Option ℕ) (g : Ground) (p : At placing) → Wraps rows (place placing p) → Here g p
+  startAround-begun : (rows : Rows) (kind : ℕ) (o : Option ℕ) (g : Ground) (p : At placing)
+      → Wraps rows (place placing p)
+      → Here g p
       → Goes (Begun rows g kind (place placing p)) (startAround placing source kind o p)
   unfolding startAround
   startAround-begun rows kind none g p wraps h = start-begun rows kind g p wraps h
@@ -341,7 +424,7 @@ module _ (source : Source) where
 
   -- a node that passes nothing, wherever it was begun
   as-under : {g : Ground} {kind from : ℕ} (p : At placing) → Begun (droppedAll source) g kind from p → Under g kind from p
-  as-under p h = record { around = h .around; outside = h .outside; level = h .level; holding = tt }
+  as-under p h = inside h (h .level) tt
 
   -- ---- a command or a \begin that passes trivia before its arguments
 
@@ -362,24 +445,29 @@ module _ (source : Source) where
   unfolding eat eatAs level-grows droppedIn
   name-in {from} p h =
       let us = h .level .inside in
-      goes (record {
-        around = h .around;
-        outside = h .outside;
-        level = level-grows (h .level) (leaf-grows _ (p .built)) (passing-more source us (leaf _) from (h .around .leaves));
-        holding = lastEnd-more source us (leaf _) from;
-      })
+      let level = level-grows (h .level) (leaf-grows _ (p .built)) (passing-more source us (leaf _) from (h .around .leaves)) in
+      goes (inside h level (lastEnd-more source us (leaf _) from))
 
-  finish-passing : {also : List Placed → At placing → Type 0} {g : Ground} {kind from : ℕ} → isBody source kind from ≡ false → passes source kind from ≡ true
+  finish-passing : {also : Also} {g : Ground} {kind from : ℕ}
+      → isBody source kind from ≡ false
+      → passes source kind from ≡ true
       → Takes (Within (droppedPassing source from) also g kind from) (Here g) (finish placing kind tt)
   unfolding droppedIn
   finish-passing body passing p h = goes (in-grows source (h .outside) (close-grows (place placing p) (h .level)) (sym (rw (body, passing))))
 
+  -- a command here passes trivia before its arguments
+  abbrev Passing : At placing → Type 0
+  Passing p = passes source SyntaxKind.ItemCmd (place placing p) ≡ true
+
   -- a node with a name alone
-  oneCmd-in : (g : Ground) (p : At placing) → passes source SyntaxKind.ItemCmd (place placing p) ≡ true → Here g p → Goes (Here g) (oneIn placing source SyntaxKind.ItemCmd p)
+  oneCmd-in : KeepIf Passing (oneIn placing source SyntaxKind.ItemCmd)
   unfolding oneIn isBody
   oneCmd-in g p passing h =
       let from = place placing p in
-      from-goes (start-begun (droppedPassing source from) SyntaxKind.ItemCmd g p (wraps-passing from) h first name-in then finish-passing refl passing then done)
+      from-goes (start-begun (droppedPassing source from) SyntaxKind.ItemCmd g p (wraps-passing from) h
+      first name-in
+      then finish-passing refl passing
+      then done)
 
   -- ---- held trivia that is dropped
 
@@ -407,15 +495,20 @@ module _ (source : Source) where
   lost zero i b blank = record { parents = refl; children = refl; leaves = refl; dropped = sym (append-nil (b .dropped)) }
   lost (suc n) i b blank =
       let rest = lost n (i + 1) (noted i reasonTrivia b) (λ j low high. blank j (omega arith) (omega arith)) in
+      let row = droppedRow i reasonTrivia (b .leaves) in
+      let rows = blanksFrom source n (i + 1) (b .leaves) in
       record {
         parents = rest .parents;
         children = rest .children;
         leaves = rest .leaves;
-        dropped = rest .dropped ∙ append-assoc (b .dropped) (droppedRow i reasonTrivia (b .leaves)) (blanksFrom source n (i + 1) (b .leaves)) ∙ rw (blank i (omega arith) (omega arith)) refl;
+        dropped = rest .dropped ∙ append-assoc (b .dropped) row rows ∙ rw (blank i (omega arith) (omega arith)) refl;
       }
 
   -- and then a child more
-  lost-grown : {rows new : List ℕ} {t : Placed} {b between after : Placing} → Lost rows b between → Grown t new between after → Grown t (rows ++ new) b after
+  lost-grown : {rows new : List ℕ} {t : Placed} {b between after : Placing}
+      → Lost rows b between
+      → Grown t new between after
+      → Grown t (rows ++ new) b after
   lost-grown {rows} {new} {t} {b} l grown =
       record {
         parents = grown .parents ∙ l .parents;
@@ -425,23 +518,31 @@ module _ (source : Source) where
       }
 
   -- an argument, behind trivia that is dropped, of a node that passes it: the node then ends where the argument does
-  argument-grows : {g : Ground} {b between after : Placing} (from held place to : ℕ) (h : Level (droppedPassing source from (g .leaves)) g b) → lastEnd source from (h .inside) ≡ held
+  argument-grows : {g : Ground} {b between after : Placing} (from held place to : ℕ) (h : Level (droppedPassing source from (g .leaves)) g b)
+      → lastEnd source from (h .inside) ≡ held
       → Lost (blanksFrom source (place - held) held (b .leaves)) b between
       → Level (droppedAll source (between .leaves)) (below SyntaxKind.ClauseArgument place between) after
       → (l : Level (droppedPassing source from (g .leaves)) g (closed to after)) × (lastEnd source from (l .inside) ≡ to)
   unfolding droppedIn isBody passes level-grows
-  argument-grows {g} {b} {between} from held place to h behind gone inside =
+  argument-grows {g} {b} {between} from held place to h behind gone read =
       let us = h .inside in
-      let is = node SyntaxKind.ClauseArgument place to (places (inside .inside)) in
-      let grown = lost-grown gone (close-grows to inside) in
-      (level-grows h grown (passing-more source us is from (g .leaves) ∙ rw (behind, ← h .leaves, gone .leaves)), lastEnd-more source us is from)
+      let is = node SyntaxKind.ClauseArgument place to (places (read .inside)) in
+      let grown = lost-grown gone (close-grows to read) in
+      let level = level-grows h grown (passing-more source us is from (g .leaves) ∙ rw (behind, ← h .leaves, gone .leaves)) in
+      (level, lastEnd-more source us is from)
 
   -- which command passes: by its shape
-  cmd-passes : (from : ℕ) (s : Shape) → greedyName source from ≡ among (s .form) greedyForms → among (s .form) greedyForms ≡ false → passes source SyntaxKind.ItemCmd from ≡ true
+  cmd-passes : (from : ℕ) (s : Shape)
+      → greedyName source from ≡ among (s .form) greedyForms
+      → among (s .form) greedyForms ≡ false
+      → passes source SyntaxKind.ItemCmd from ≡ true
   unfolding passes
   cmd-passes from s is e = rw (is, e) refl
 
-  cmd-plain : (from : ℕ) (s : Shape) → greedyName source from ≡ among (s .form) greedyForms → among (s .form) greedyForms ≡ true → Plain SyntaxKind.ItemCmd from
+  cmd-plain : (from : ℕ) (s : Shape)
+      → greedyName source from ≡ among (s .form) greedyForms
+      → among (s .form) greedyForms ≡ true
+      → Plain SyntaxKind.ItemCmd from
   unfolding passes isBody
   cmd-plain from s is e = record { body = refl; passing = rw (is, e) refl }
 
@@ -471,14 +572,7 @@ module _ (source : Source) where
     itemGroup-in : (scope : Scope) → Keep (itemGroup placing source inner scope)
     unfolding itemGroup
     itemGroup-in scope g p h =
-        let from = place placing p in
-        let kind = groupKind scope in
-        from-goes (start-under kind g p h
-        first under eat-in g kind from
-        then under (itemList-in scope) g kind from
-        then under (eatIf-in (closer scope)) g kind from
-        then finish-in (other kind from (group-plain scope))
-        then done)
+        node-in (groupKind scope) (group-plain scope) (eat-in and itemList-in scope and eatIf-in (closer scope) and no-more) g p h
 
     -- ---- arguments
 
@@ -498,50 +592,55 @@ module _ (source : Source) where
           let w = h .holding in
           let blank : Blank held (held + (at - held)) = λ i low high. w .blank i low (omega arith) in
           let gone = lost (at - held) held (p .built) blank in
-          bind-goes (piece-in what (below SyntaxKind.ClauseArgument at (dropFrom placing source (at - held) held (p .built))) _ (in-opens source SyntaxKind.ClauseArgument at (dropFrom placing source (at - held) held (p .built))))
-          (λ q inside.
-          let grown = argument-grows from held at (place placing q) (h .level) (w .behind) gone inside in
-          goes (record {
-            around = h .around;
-            outside = h .outside;
-            level = grown .0;
-            holding = record { behind = grown .1; blank = λ i low high. absurd (omega arith) };
-          }))
+          let without = dropFrom placing source (at - held) held (p .built) in
+          let opened = in-opens source SyntaxKind.ClauseArgument at without in
+          bind-goes (piece-in what (below SyntaxKind.ClauseArgument at without) _ opened) (λ q read.
+          let grown = argument-grows from held at (place placing q) (h .level) (w .behind) gone read in
+          goes (inside h (grown .0) (record { behind = grown .1; blank = λ i low high. absurd (omega arith) })))
 
       -- trivia is held
-      holds-in : (p : At placing) → isBlank source (place placing p) ≡ true → Holding g kind from p → Holding g kind from (holdTrivia placing source p)
+      holds-in : (p : At placing)
+          → isBlank source (place placing p) ≡ true
+          → Holding g kind from p
+          → Holding g kind from (holdTrivia placing source p)
       holds-in p is h =
           let w = h .holding in
-          record { around = h .around; outside = h .outside; level = h .level; holding = record { behind = w .behind; blank = blank-more (p .held) (place placing p) is (w .blank) } }
+          inside h (h .level) (record { behind = w .behind; blank = blank-more (p .held) (place placing p) is (w .blank) })
 
-      chosen-in : (rest : Matcher → Rule) → ((m : Matcher) → Takes (Holding g kind from) (Holding g kind from) (rest m)) → (choice : Choice) (m : Matcher) (p : At placing) → (choice ≡ holds → isBlank source (place placing p) ≡ true) → Holding g kind from p
-          → Goes (Holding g kind from) (chosen placing source inner rest choice m p)
-      chosen-in rest goesOn ends m p is h = goes h
-      chosen-in rest goesOn holds m p is h = goesOn m _ (holds-in p (is refl) h)
-      chosen-in rest goesOn (takes what next) m p is h = bind-goes (argument-in what p h) (goesOn next)
+      module _ (rest : Matcher → Rule) (goesOn : (m : Matcher) → Takes (Holding g kind from) (Holding g kind from) (rest m)) where
+        chosen-in : (choice : Choice) (m : Matcher) (p : At placing)
+            → (choice ≡ holds → isBlank source (place placing p) ≡ true)
+            → Holding g kind from p
+            → Goes (Holding g kind from) (chosen placing source inner rest choice m p)
+        chosen-in ends m p is h = goes h
+        chosen-in holds m p is h = goesOn m _ (holds-in p (is refl) h)
+        chosen-in (takes what next) m p is h = bind-goes (argument-in what p h) (goesOn next)
 
-      -- at a token, or at the end
-      choiceIf-in : (rest : Matcher → Rule) → ((m : Matcher) → Takes (Holding g kind from) (Holding g kind from) (rest m)) → (t : Bool) (m : Matcher) (p : At placing) → Holding g kind from p
-          → Goes (Holding g kind from) (chosen placing source inner rest (choiceFor placing source inner (cond t (some (kindOf source (place placing p))) none) m p) m p)
-      choiceIf-in rest goesOn true m p h =
-          chosen-in rest goesOn (choose (source .states) (p .list .scope) m (kindOf source (place placing p))) m p (held-is-blank source (p .list .scope) m (place placing p)) h
-      choiceIf-in rest goesOn false m p h = goes h
+        -- at a token, or at the end
+        choiceIf-in : (t : Bool) (m : Matcher) (p : At placing)
+            → Holding g kind from p
+            → let o = cond t (some (kindOf source (place placing p))) none in
+            Goes (Holding g kind from) (chosen placing source inner rest (choiceFor placing source inner o m p) m p)
+        choiceIf-in true m p h =
+            let choice = choose (source .states) (p .list .scope) m (kindOf source (place placing p)) in
+            chosen-in choice m p (held-is-blank source (p .list .scope) m (place placing p)) h
+        choiceIf-in false m p h = goes h
 
       arguments-in : (n : ℕ) (m : Matcher) → Takes (Holding g kind from) (Holding g kind from) (arguments placing source inner n m)
       unfolding arguments peek
       arguments-in zero m p h = goes h
-      arguments-in (suc n) m p h = choiceIf-in (arguments placing source inner n) (arguments-in n) (ltb (place placing p) (tokenCount (source .tokens))) m p h
+      arguments-in (suc n) m p h = choiceIf-in (arguments placing source inner n) (arguments-in n) (ltb (place placing p) count) m p h
 
       -- nothing is held behind a name
       held-none : (p : At placing) → Named g kind from p → Holding g kind from (holdingNone placing p)
-      held-none p h = record { around = h .around; outside = h .outside; level = h .level; holding = record { behind = h .holding; blank = λ i low high. absurd (omega arith) } }
+      held-none p h = inside h (h .level) (record { behind = h .holding; blank = λ i low high. absurd (omega arith) })
 
       matchArguments-in : (m : Matcher) → Takes (Named g kind from) (Holding g kind from) (matchArguments placing source inner m)
       unfolding matchArguments steps
       matchArguments-in m p h =
           let k = held-none p h in
-          bind-goes (arguments-in _ m _ (record { around = k .around; outside = k .outside; level = k .level; holding = record { behind = k .holding .behind; blank = k .holding .blank } }))
-          (λ q r. goes (record { around = r .around; outside = r .outside; level = r .level; holding = record { behind = r .holding .behind; blank = r .holding .blank } }))
+          bind-goes (arguments-in _ m _ (inside k (k .level) (record { behind = k .holding .behind; blank = k .holding .blank })))
+          (λ q r. goes (inside r (r .level) (record { behind = r .holding .behind; blank = r .holding .blank })))
 
     greedyItems-in : Keep (greedyItems placing source inner)
     unfolding greedyItems steps
@@ -549,27 +648,17 @@ module _ (source : Source) where
 
     greedyArgument-in : Keep (greedyArgument placing source inner)
     unfolding greedyArgument
-    greedyArgument-in g p h =
-        let from = place placing p in
-        let kind = SyntaxKind.ClauseArgument in
-        from-goes (start-under kind g p h first under greedyItems-in g kind from then finish-in (other kind from refl) then done)
+    greedyArgument-in g p h = node-in SyntaxKind.ClauseArgument refl (greedyItems-in and no-more) g p h
 
     -- ---- commands
 
-    greedyCommand-in : (o : Option ℕ) (g : Ground) (p : At placing) → Plain SyntaxKind.ItemCmd (place placing p) → Here g p
-        → Goes (Here g) (greedyCommand placing source inner o p)
+    greedyCommand-in : (o : Option ℕ) → KeepIf (λ p. Plain SyntaxKind.ItemCmd (place placing p)) (greedyCommand placing source inner o)
     unfolding greedyCommand
     greedyCommand-in o g p ordinary h =
-        let from = place placing p in
-        let kind = SyntaxKind.ItemCmd in
-        from-goes (weaker-goes as-under (startAround-begun (droppedAll source) kind o g p (wraps-all from) h)
-        first under eat-in g kind from
-        then under greedyArgument-in g kind from
-        then finish-in ordinary
-        then done)
+        let begun = startAround-begun (droppedAll source) SyntaxKind.ItemCmd o g p (wraps-all (place placing p)) h in
+        begun-in (startAround placing source SyntaxKind.ItemCmd o) p (weaker-goes as-under begun) ordinary (eat-in and greedyArgument-in and no-more)
 
-    matchedCommand-in : (m : Matcher) (g : Ground) (p : At placing) → passes source SyntaxKind.ItemCmd (place placing p) ≡ true → Here g p
-        → Goes (Here g) (matchedCommand placing source inner m p)
+    matchedCommand-in : (m : Matcher) → KeepIf Passing (matchedCommand placing source inner m)
     unfolding matchedCommand isBody
     matchedCommand-in m g p passing h =
         let from = place placing p in
@@ -580,8 +669,7 @@ module _ (source : Source) where
         then extract-in g
         then done)
 
-    left1Command-in : (g : Ground) (p : At placing) → passes source SyntaxKind.ItemCmd (place placing p) ≡ true → Here g p
-        → Goes (Here g) (left1Command placing source p)
+    left1Command-in : KeepIf Passing (left1Command placing source)
     unfolding left1Command isBody
     left1Command-in g p passing h =
         let from = place placing p in
@@ -591,25 +679,29 @@ module _ (source : Source) where
         then finish-passing refl passing
         then done)
 
-    commandOf-in : (s : Shape) (g : Ground) (p : At placing) → greedyName source (place placing p) ≡ among (s .form) greedyForms → Here g p
-        → Goes (Here g) (commandOf placing source inner s p)
+    commandOf-in : (s : Shape) → KeepIf (λ p. greedyName source (place placing p) ≡ among (s .form) greedyForms) (commandOf placing source inner s)
     unfolding commandOf
     commandOf-in s g p is h =
         let from = place placing p in
         let takes-all = greedy-is (s .form) (s .value) in
         cond-goes (nameOnly s) (λ e. oneCmd-in g p (cmd-passes from s is (name-not-greedy s e)) h)
-        (λ _. cond-goes (eqb (s .form) formLeft1) (λ e. left1Command-in g p (cmd-passes from s is (left1-not-greedy (s .form) e)) h)
-        (λ _. cond-goes (eqb (s .form) formInfixGreedy) (λ e. greedyCommand-in (p .list .start) g _ (cmd-plain from s is (infix-greedy (s .form) e)) h)
-        (λ _. cond-goes (isGreedy (startMatch (s .form) (s .value))) (λ e. greedyCommand-in none g p (cmd-plain from s is (sym takes-all ∙ e)) h)
+        (λ _. cond-goes (eqb (s .form) formLeft1)
+        (λ e. left1Command-in g p (cmd-passes from s is (left1-not-greedy (s .form) e)) h)
+        (λ _. cond-goes (eqb (s .form) formInfixGreedy)
+        (λ e. greedyCommand-in (p .list .start) g _ (cmd-plain from s is (infix-greedy (s .form) e)) h)
+        (λ _. cond-goes (isGreedy (startMatch (s .form) (s .value)))
+        (λ e. greedyCommand-in none g p (cmd-plain from s is (sym takes-all ∙ e)) h)
         (λ e. matchedCommand-in _ g p (cmd-passes from s is (sym takes-all ∙ e)) h))))
 
     -- ---- environments, left-right bodies, attachments
 
-    environmentArguments-in : (s : Shape) {g : Ground} {kind from : ℕ} → Takes (Named g kind from) (Holding g kind from) (environmentArguments placing source inner s)
+    environmentArguments-in : (s : Shape) {g : Ground} {kind from : ℕ}
+        → Takes (Named g kind from) (Holding g kind from) (environmentArguments placing source inner s)
     unfolding environmentArguments
     environmentArguments-in s p h =
         cond-goes (nameOnly s) (λ _. goes (held-none p h))
-        (λ _. cond-goes (isGreedy (startMatch (s .form) (s .value))) (λ _. stopped greedyEnvironment (place placing p)) (λ _. matchArguments-in (startMatch (s .form) (s .value)) p h))
+        (λ _. cond-goes (isGreedy (startMatch (s .form) (s .value))) (λ _. stopped greedyEnvironment (place placing p))
+        (λ _. matchArguments-in (startMatch (s .form) (s .value)) p h))
 
     beginClause-in : Keep (beginClause placing source inner)
     unfolding beginClause isBody passes
@@ -629,14 +721,7 @@ module _ (source : Source) where
     environmentItem-in : Keep (environmentItem placing source inner)
     unfolding environmentItem
     environmentItem-in g p h =
-        let from = place placing p in
-        let kind = SyntaxKind.ItemEnv in
-        from-goes (start-under kind g p h
-        first under beginClause-in g kind from
-        then under (itemList-in Scope.Environment) g kind from
-        then under endClause-in g kind from
-        then finish-in (other kind from refl)
-        then done)
+        node-in SyntaxKind.ItemEnv refl (beginClause-in and itemList-in Scope.Environment and endClause-in and no-more) g p h
 
     rightClause-in : Keep (rightClause placing source)
     unfolding rightClause
@@ -644,15 +729,7 @@ module _ (source : Source) where
 
     itemLr-in : Keep (itemLr placing source inner)
     unfolding itemLr
-    itemLr-in g p h =
-        let from = place placing p in
-        let kind = SyntaxKind.ItemLR in
-        from-goes (start-under kind g p h
-        first under clauseLr-in g kind from
-        then under (itemList-in Scope.LR) g kind from
-        then under rightClause-in g kind from
-        then finish-in (other kind from refl)
-        then done)
+    itemLr-in g p h = node-in SyntaxKind.ItemLR refl (clauseLr-in and itemList-in Scope.LR and rightClause-in and no-more) g p h
 
     script-in : (hasScript : Bool) → Keep (script placing source inner hasScript)
     unfolding script
@@ -662,13 +739,10 @@ module _ (source : Source) where
     attachmentAt-in : (hasScript : Bool) (o : Option ℕ) → Keep (attachmentAt placing source inner hasScript o)
     unfolding attachmentAt
     attachmentAt-in hasScript o g p h =
-        let from = place placing p in
         let kind = SyntaxKind.ItemAttachComponent in
-        from-goes (weaker-goes as-under (startAround-begun (droppedAll source) kind o g p (wraps-all from) h)
-        first under eat-in g kind from
-        then under (script-in hasScript) g kind from
-        then finish-in (other kind from refl)
-        then done)
+        let begun = startAround-begun (droppedAll source) kind o g p (wraps-all (place placing p)) h in
+        let ordinary = other kind (place placing p) refl in
+        begun-in (startAround placing source kind o) p (weaker-goes as-under begun) ordinary (eat-in and script-in hasScript and no-more)
 
     attachTo-in : (hasScript : Bool) (o : Option ℕ) → Keep (attachTo placing source inner hasScript o)
     unfolding attachTo
@@ -678,7 +752,7 @@ module _ (source : Source) where
 
     -- ---- any item
 
-    readItem-in : (single : Bool) (what : Item) (g : Ground) (p : At placing) → Fits source what (place placing p) → Here g p → Goes (Here g) (readItem placing source inner single what p)
+    readItem-in : (single : Bool) (what : Item) → KeepIf (λ p. Fits source what (place placing p)) (readItem placing source inner single what)
     unfolding readItem attachComponent greedyName
     readItem-in single plain g p fits h = eat-in g p h
     readItem-in single error g p fits h = oneIn-in SyntaxKind.TokenError refl g p h
@@ -691,13 +765,13 @@ module _ (source : Source) where
     readItem-in single leftRight g p fits h = itemLr-in g p h
     readItem-in single (skipped kind) g p fits h = skippedBody-in kind g p fits h
 
-    contentIf-in : (t single : Bool) (g : Ground) (p : At placing) → Here g p → Goes (Here g) (contentFor placing source inner (cond t (some (kindOf source (place placing p))) none) single p)
+    contentIf-in : (t single : Bool) → Keep (λ p. contentFor placing source inner (cond t (some (kindOf source (place placing p))) none) single p)
     contentIf-in true single g p h = readItem-in single (itemOf (kindOf source (place placing p))) g p (item-fits source (place placing p)) h
     contentIf-in false single g p h = goes h
 
     content-in : (single : Bool) → Keep (content placing source inner single)
     unfolding content peek
-    content-in single g p h = contentIf-in (ltb (place placing p) (tokenCount (source .tokens))) single g p h
+    content-in single g p h = contentIf-in (ltb (place placing p) count) single g p h
 
   contentAt-in : (d : ℕ) (single : Bool) → Keep (contentAt placing source d single)
   unfolding contentAt
@@ -714,10 +788,11 @@ module _ (source : Source) where
   unfolding droppedIn isBody passes
   root-exact p h =
       let grown = close-grows (place placing p) h in
-      record { tree = node SyntaxKind.ScopeRoot 0 (place placing p) (places (h .inside)); children = grown .children; dropped = grown .dropped }
+      let tree = node SyntaxKind.ScopeRoot 0 (place placing p) (places (h .inside)) in
+      record { tree = tree; children = grown .children; dropped = grown .dropped }
 
   pub exactly-noted : Goes (λ p. Exact (p .built)) (parse placing source nothing)
   unfolding parse steps
   exactly-noted =
-      bind-goes (itemList-in (contentAt placing source Limits.nodes) (contentAt-in Limits.nodes) Scope.Root (below SyntaxKind.ScopeRoot 0 nothing) _ (in-opens source SyntaxKind.ScopeRoot 0 nothing))
-      (λ p h. goes (root-exact p h))
+      let opened = in-opens source SyntaxKind.ScopeRoot 0 nothing in
+      bind-goes (itemList-in _ (contentAt-in _) Scope.Root (below SyntaxKind.ScopeRoot 0 nothing) _ opened) (λ p h. goes (root-exact p h))

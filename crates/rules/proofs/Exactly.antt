@@ -1,5 +1,5 @@
--- What is dropped is exactly what the demand lists: of every accepted run, the dropped rows are those that `Exactly.dropped` reads off the run's tree and the
--- kinds of the tokens. The run's rows are those of that tree. Assumes nothing.
+-- What is dropped is exactly what the demand lists: of every accepted run, the dropped rows are those that `Exactly.dropped` reads off the run's tree
+-- and the kinds of the tokens. The run's rows are those of that tree. Assumes nothing.
 use Prim.Native.Nat.{ℕ, _*_, _/_}
 use mathlib.Core.Path.{_≡_, refl, sym, ap, _∙_}
 use mathlib.Core.List.{List, [], _∷_}
@@ -51,7 +51,8 @@ module _ (room : ℕ) (source : Source) where
       let notes = accepted-noted (noted-run room source) (green .1) in
       let twin = notes .2 in
       let exact = went-goes (exactly-noted source) (notes .1) in
-      let is : node ScopeRoot (whole .inside) ≡ bare (exact .tree) = the-same (sym (whole .tree) ∙ twin .children ∙ ap (λ (ts : List Placed). trees ts) (exact .children)) in
+      let is : node ScopeRoot (whole .inside) ≡ bare (exact .tree) =
+      the-same (sym (whole .tree) ∙ twin .children ∙ ap (λ (ts : List Placed). trees ts) (exact .children)) in
       record {
         tree = exact .tree;
         of = record { end = notes .0; run = notes .1; is = exact .children };
@@ -78,7 +79,10 @@ counts : {a b c d : ℕ} → accepted a b ≡ accepted c d → (a ≡ c) × (b �
 counts e = (cc, cc)
 
 module _ (t : Tables) (tree buffer : List ℕ) (rows count : ℕ) where
-  reading : (o : Out (Pos Built Mark)) → parse (flat (length tree)) (sourceOf t) Flat.empty ≡ o → afterReading tree buffer o .answer ≡ accepted rows count → RanExactly t rows count (afterReading tree buffer o)
+  reading : (o : Out (Pos Built Mark))
+      → parse (flat (length tree)) (sourceOf t) Flat.empty ≡ o
+      → afterReading tree buffer o .answer ≡ accepted rows count
+      → RanExactly t rows count (afterReading tree buffer o)
   reading (refused number place) e is = let z : _≡_ {A = ℕ} 0 1 = cc in absurd (omega arith)
   reading (went p) e is =
       let built = p .built in

@@ -68,6 +68,13 @@ module _ (n place kind : ℕ) (m : Mark) (b : Rows) where
 
 -- ---- a wrap: two openings at a mark, and the end of the inner one
 
+-- the rows behind the second opening, and behind the end
+abbrev pub wrapOpened : ℕ → Mark → Rows → Rows
+wrapOpened kind m b = startedAt ClauseArgument m (startedAt kind m b)
+
+abbrev pub wrapEnded : ℕ → Mark → Rows → Rows
+wrapEnded kind m b = finished ClauseArgument (frameOf (startedAt kind m b)) (wrapOpened kind m b)
+
 module _ (n place kind : ℕ) (m : Mark) (b : Rows) where
   pub wrap-before : m .children < b .first → wrap n place kind m b ≡ refused markBeforeNode place
   unfolding wrap
@@ -86,21 +93,28 @@ module _ (n place kind : ℕ) (m : Mark) (b : Rows) where
       -- the second opening is judged by itself
       pub wrap-deeper : b .rows < n / treeWidth → nodes ≤ b .depth + 1 → wrap n place kind m b ≡ refused tooManyOpen place
       unfolding wrap startedAt
-      wrap-deeper free many = rw (at-goes n place kind m b inside few free, at-deep n place ClauseArgument m (startedAt kind m b) (le-refl (m .children)) many)
+      wrap-deeper free many =
+          rw (at-goes n place kind m b inside few free, at-deep n place ClauseArgument m (startedAt kind m b) (le-refl (m .children)) many)
 
     module _ (few : b .depth + 1 < nodes) where
       after-first : b .rows < n / treeWidth → n / treeWidth ≤ b .rows + 1 → wrap n place kind m b ≡ refused noRoom place
       unfolding wrap startedAt
-      after-first free full = rw (at-goes n place kind m b inside (omega arith) free, at-full n place ClauseArgument m (startedAt kind m b) (le-refl (m .children)) few full)
+      after-first free full =
+          let second = at-full n place ClauseArgument m (startedAt kind m b) (le-refl (m .children)) few full in
+          rw (at-goes n place kind m b inside (omega arith) free, second)
 
       -- both openings have room
-      pub wrap-finish : b .rows + 1 < n / treeWidth → wrap n place kind m b ≡ finish n place ClauseArgument (frameOf (startedAt kind m b)) (startedAt ClauseArgument m (startedAt kind m b))
+      pub wrap-finish : b .rows + 1 < n / treeWidth
+          → wrap n place kind m b ≡ finish n place ClauseArgument (frameOf (startedAt kind m b)) (wrapOpened kind m b)
       unfolding wrap startedAt
-      wrap-finish free = rw (at-goes n place kind m b inside (omega arith) (omega arith), at-goes n place ClauseArgument m (startedAt kind m b) (le-refl (m .children)) few free)
+      wrap-finish free =
+          let second = at-goes n place ClauseArgument m (startedAt kind m b) (le-refl (m .children)) few free in
+          rw (at-goes n place kind m b inside (omega arith) (omega arith), second)
 
       after-second : b .rows + 1 < n / treeWidth → n / treeWidth ≤ b .rows + 2 → wrap n place kind m b ≡ refused noRoom place
       unfolding startedAt
-      after-second free full = rw (wrap-finish free) (finish-full n place (startedAt ClauseArgument m (startedAt kind m b)) (omega arith) ClauseArgument (frameOf (startedAt kind m b)))
+      after-second free full =
+          rw (wrap-finish free) (finish-full n place (wrapOpened kind m b) (omega arith) ClauseArgument (frameOf (startedAt kind m b)))
 
       -- there is no room for the three rows, whichever it is that lacks it
       pub wrap-fuller : b .rows < n / treeWidth → n / treeWidth ≤ b .rows + 2 → wrap n place kind m b ≡ refused noRoom place
@@ -111,12 +125,16 @@ module _ (n place kind : ℕ) (m : Mark) (b : Rows) where
 -- ---- an operation that went had room, and is what it was to be
 
 -- a test that lets an outcome through
-let-through : (test : Bool) (go : Out Rows) (number place : ℕ) (x : Rows) → cond test go (refused number place) ≡ went x → (test ≡ true) × (go ≡ went x)
+let-through : (test : Bool) (go : Out Rows) (number place : ℕ) (x : Rows)
+    → cond test go (refused number place) ≡ went x
+    → (test ≡ true) × (go ≡ went x)
 let-through true go number place x e = (refl, e)
 let-through false go number place x e = let z : _≡_ {A = ℕ} 0 1 = cc in absurd (omega arith)
 
 -- a test that stops an outcome
-not-stopped : (test : Bool) (go : Out Rows) (number place : ℕ) (x : Rows) → cond test (refused number place) go ≡ went x → (test ≡ false) × (go ≡ went x)
+not-stopped : (test : Bool) (go : Out Rows) (number place : ℕ) (x : Rows)
+    → cond test (refused number place) go ≡ went x
+    → (test ≡ false) × (go ≡ went x)
 not-stopped false go number place x e = (refl, e)
 not-stopped true go number place x e = let z : _≡_ {A = ℕ} 0 1 = cc in absurd (omega arith)
 
@@ -147,10 +165,13 @@ module _ (n place : ℕ) (b x : Rows) where
   unfolding start
   start-went kind e = had-few (started kind b) e
 
-  pub at-went : (kind : ℕ) (m : Mark) → startAt n place kind m b ≡ went x → (b .first ≤ m .children) × (b .depth < nodes) × (b .rows < n / treeWidth) × (startedAt kind m b ≡ x)
+  pub at-went : (kind : ℕ) (m : Mark)
+      → startAt n place kind m b ≡ went x
+      → (b .first ≤ m .children) × (b .depth < nodes) × (b .rows < n / treeWidth) × (startedAt kind m b ≡ x)
   unfolding startAt
   at-went kind m e =
-      let inside = not-stopped (ltb (m .children) (b .first)) (orTooManyOpen place b (orNoRoom n place b (went (startedAt kind m b)))) markBeforeNode place x e in
+      let opened = orTooManyOpen place b (orNoRoom n place b (went (startedAt kind m b))) in
+      let inside = not-stopped (ltb (m .children) (b .first)) opened markBeforeNode place x e in
       let few = had-few (startedAt kind m b) (inside .1) in
       (ltb-false (m .children) (b .first) (inside .0), few .0, few .1, few .2)
 
@@ -160,16 +181,21 @@ both-went (went y) f x e = (y, refl, e)
 both-went (refused number place) f x e = let z : _≡_ {A = ℕ} 0 1 = cc in absurd (omega arith)
 
 -- the rows of a wrap, from those of its steps
-wrap-rows : (kind : ℕ) (m : Mark) (b o i x : Rows) → startedAt kind m b ≡ o → startedAt ClauseArgument m o ≡ i → finished ClauseArgument (frameOf o) i ≡ x
-    → finished ClauseArgument (frameOf (startedAt kind m b)) (startedAt ClauseArgument m (startedAt kind m b)) ≡ x
+wrap-rows : (kind : ℕ) (m : Mark) (b o i x : Rows)
+    → startedAt kind m b ≡ o
+    → startedAt ClauseArgument m o ≡ i
+    → finished ClauseArgument (frameOf o) i ≡ x
+    → wrapEnded kind m b ≡ x
 wrap-rows kind m b o i x first second last = rw (first, second) last
 
-pub wrap-went : (n place : ℕ) (b x : Rows) (kind : ℕ) (m : Mark) → wrap n place kind m b ≡ went x
-    → (b .first ≤ m .children) × (b .depth + 1 < nodes) × (b .rows + 2 < n / treeWidth) × (finished ClauseArgument (frameOf (startedAt kind m b)) (startedAt ClauseArgument m (startedAt kind m b)) ≡ x)
+pub wrap-went : (n place : ℕ) (b x : Rows) (kind : ℕ) (m : Mark)
+    → wrap n place kind m b ≡ went x
+    → (b .first ≤ m .children) × (b .depth + 1 < nodes) × (b .rows + 2 < n / treeWidth) × (wrapEnded kind m b ≡ x)
 unfolding wrap startedAt
 wrap-went n place b x kind m e =
-    let outer = both-went (startAt n place kind m b) (λ o. bind (startAt n place ClauseArgument m o) (λ i. finish n place ClauseArgument (frameOf o) i)) x e in
-    let inner = both-went (startAt n place ClauseArgument m (outer .0)) (λ i. finish n place ClauseArgument (frameOf (outer .0)) i) x (outer .2) in
+    let ends : Rows → Rows → Out Rows = λ o i. finish n place ClauseArgument (frameOf o) i in
+    let outer = both-went (startAt n place kind m b) (λ o. bind (startAt n place ClauseArgument m o) (ends o)) x e in
+    let inner = both-went (startAt n place ClauseArgument m (outer .0)) (ends (outer .0)) x (outer .2) in
     let first = at-went n place b (outer .0) kind m (outer .1) in
     let second = at-went n place (outer .0) (inner .0) ClauseArgument m (inner .1) in
     let last = finish-went n place (inner .0) x ClauseArgument (frameOf (outer .0)) (inner .2) in

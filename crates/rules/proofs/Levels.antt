@@ -1,5 +1,5 @@
--- What was dropped and the tree with its places, at each open node: the rows so far are those of the children so far. Laws of how a level is opened, grows by
--- a child and is closed. Assumes nothing.
+-- What was dropped and the tree with its places, at each open node: the rows so far are those of the children so far. Laws of how a level is opened,
+-- grows by a child and is closed. Assumes nothing.
 use Prim.Native.Nat.{ℕ, _+_, _-_, _≤_}
 use mathlib.Core.Path.{_≡_, refl, sym, ap, _∙_}
 use mathlib.Core.List.{List, [], _∷_, _++_, append-assoc, append-nil}
@@ -24,13 +24,16 @@ unfolding leavesAll
 leaves-one x = omega arith
 
 module _ (source : Source) where
-  pub all-more : (xs ys : List Placed) (n : ℕ) → droppedAll source n (places (xs ++ ys)) ≡ droppedAll source n (places xs) ++ droppedAll source (n + leavesAll (places xs)) (places ys)
+  pub all-more : (xs ys : List Placed) (n : ℕ)
+      → droppedAll source n (places (xs ++ ys)) ≡ droppedAll source n (places xs) ++ droppedAll source (n + leavesAll (places xs)) (places ys)
   unfolding droppedAll leavesAll
   all-more [] ys n = ap (λ (i : ℕ). droppedAll source i (places ys)) (omega arith)
   all-more (x ∷ xs) ys n =
       let same : n + leavesIn x + leavesAll (places xs) ≡ n + (leavesIn x + leavesAll (places xs)) = omega arith in
-      ap (λ (l : List ℕ). droppedIn source n x ++ l) (all-more xs ys (n + leavesIn x) ∙ rw same refl)
-      ∙ sym (append-assoc (droppedIn source n x) (droppedAll source (n + leavesIn x) (places xs)) (droppedAll source (n + (leavesIn x + leavesAll (places xs))) (places ys)))
+      let own = droppedIn source n x in
+      let front = droppedAll source (n + leavesIn x) (places xs) in
+      let back = droppedAll source (n + (leavesIn x + leavesAll (places xs))) (places ys) in
+      ap (λ (l : List ℕ). own ++ l) (all-more xs ys (n + leavesIn x) ∙ rw same refl) ∙ sym (append-assoc own front back)
 
   pub all-one : (x : Placed) (n : ℕ) → droppedAll source n (places (x ∷ [])) ≡ droppedIn source n x
   unfolding droppedAll
@@ -45,9 +48,13 @@ module _ (source : Source) where
   lastEnd-more [] y behind = refl
   lastEnd-more (x ∷ xs) y behind = lastEnd-more xs y (endOf source x)
 
+  -- the rows of a child, where so many leaves stand before it, of a node that passes trivia and has read up to `behind`
+  abbrev pub ownRows : ℕ → Placed → ℕ → List ℕ
+  ownRows behind y n = passedBefore source behind y n ++ droppedIn source n y
+
   pub passing-more : (xs : List Placed) (y : Placed) (behind n : ℕ)
       → droppedPassing source behind n (places (xs ++ (y ∷ [])))
-      ≡ droppedPassing source behind n (places xs) ++ (passedBefore source (lastEnd behind xs) y (n + leavesAll (places xs)) ++ droppedIn source (n + leavesAll (places xs)) y)
+      ≡ droppedPassing source behind n (places xs) ++ ownRows (lastEnd behind xs) y (n + leavesAll (places xs))
   unfolding droppedPassing leavesAll
   passing-more [] y behind n =
       let same : n + 0 ≡ n = omega arith in
@@ -58,7 +65,7 @@ module _ (source : Source) where
       let front = passedBefore source behind x n in
       let own = droppedIn source n x in
       let rest = droppedPassing source (endOf source x) (n + leavesIn x) (places xs) in
-      let last = passedBefore source (lastEnd (endOf source x) xs) y k ++ droppedIn source k y in
+      let last = ownRows (lastEnd (endOf source x) xs) y k in
       ap (λ (l : List ℕ). front ++ (own ++ l)) (passing-more xs y (endOf source x) (n + leavesIn x) ∙ rw same refl)
       ∙ ap (λ (l : List ℕ). front ++ l) (sym (append-assoc own rest last))
       ∙ sym (append-assoc front (own ++ rest) last)
@@ -87,9 +94,19 @@ pub record Level (rows : Places → List ℕ) (g : Ground) (b : Placing) : Type 
   pub dropped : b .dropped ≡ g .dropped ++ rows (places inside)
 
 -- it has no child yet
-unfoldable pub level-opens : (rows : Places → List ℕ) → rows none ≡ [] → (kind from : ℕ) (b : Placing) → Level rows (below kind from b) (opened from kind (length (b .children)) b)
+unfoldable pub level-opens : (rows : Places → List ℕ)
+    → rows none ≡ []
+    → (kind from : ℕ) (b : Placing)
+    → Level rows (below kind from b) (opened from kind (length (b .children)) b)
 unfolding opened leavesAll
-level-opens rows e kind from b = record { inside = []; parents = refl; children = sym (append-nil (b .children)); leaves = omega arith; dropped = sym (rw e (append-nil (b .dropped))) }
+level-opens rows e kind from b =
+    record {
+      inside = [];
+      parents = refl;
+      children = sym (append-nil (b .children));
+      leaves = omega arith;
+      dropped = sym (rw e (append-nil (b .dropped)));
+    }
 
 -- one child more, with its rows
 pub record Grown (t : Placed) (rows : List ℕ) (b after : Placing) : Type 0 where
@@ -98,7 +115,8 @@ pub record Grown (t : Placed) (rows : List ℕ) (b after : Placing) : Type 0 whe
   pub leaves : after .leaves ≡ b .leaves + leavesIn t
   pub dropped : after .dropped ≡ b .dropped ++ rows
 
-unfoldable pub level-grows : {rows : Places → List ℕ} {g : Ground} {b after : Placing} {t : Placed} {new : List ℕ} (h : Level rows g b) → Grown t new b after
+unfoldable pub level-grows : {rows : Places → List ℕ} {g : Ground} {b after : Placing} {t : Placed} {new : List ℕ} (h : Level rows g b)
+    → Grown t new b after
     → rows (places (h .inside ++ (t ∷ []))) ≡ rows (places (h .inside)) ++ new
     → Level rows g after
 level-grows {rows} {g} {t} {new} h grown e =
@@ -107,12 +125,13 @@ level-grows {rows} {g} {t} {new} h grown e =
     let one = leaves-one t in
     let before = h .leaves in
     let by = grown .leaves in
+    let all = append-assoc (g .dropped) (rows (places us)) new ∙ ap (λ (l : List ℕ). g .dropped ++ l) (sym e) in
     record {
       inside = us ++ (t ∷ []);
       parents = grown .parents ∙ h .parents;
       children = grown .children ∙ ap (λ (l : List Placed). l ++ (t ∷ [])) (h .children) ∙ append-assoc (g .base) us (t ∷ []);
       leaves = omega arith;
-      dropped = grown .dropped ∙ ap (λ (l : List ℕ). l ++ new) (h .dropped) ∙ append-assoc (g .dropped) (rows (places us)) new ∙ ap (λ (l : List ℕ). g .dropped ++ l) (sym e);
+      dropped = grown .dropped ∙ ap (λ (l : List ℕ). l ++ new) (h .dropped) ∙ all;
     }
 
 pub leaf-grows : (l : Leaf) (b : Placing) → Grown (leaf l) [] b (leafed l b)
@@ -142,10 +161,15 @@ module _ (source : Source) where
   unfolding droppedAll
   in-opens kind from b = level-opens (droppedAll source (b .leaves)) refl kind from b
 
-  pub in-grows : {g : Ground} {b after : Placing} {t : Placed} {new : List ℕ} → In g b → Grown t new b after → new ≡ droppedIn source (b .leaves) t → In g after
+  pub in-grows : {g : Ground} {b after : Placing} {t : Placed} {new : List ℕ}
+      → In g b
+      → Grown t new b after
+      → new ≡ droppedIn source (b .leaves) t
+      → In g after
   in-grows {g} {t} {new} h grown e =
-      level-grows h grown (all-more source (h .inside) (t ∷ []) (g .leaves) ∙ ap (λ (l : List ℕ). droppedAll source (g .leaves) (places (h .inside)) ++ l)
-      (all-one source t (g .leaves + leavesAll (places (h .inside))) ∙ ap (λ (n : ℕ). droppedIn source n t) (sym (h .leaves)) ∙ sym e))
+      let us = places (h .inside) in
+      let last = all-one source t (g .leaves + leavesAll us) ∙ ap (λ (n : ℕ). droppedIn source n t) (sym (h .leaves)) ∙ sym e in
+      level-grows h grown (all-more source (h .inside) (t ∷ []) (g .leaves) ∙ ap (λ (l : List ℕ). droppedAll source (g .leaves) us ++ l) last)
 
   pub in-leaf : {g : Ground} {b : Placing} (l : Leaf) → In g b → In g (leafed l b)
   unfolding droppedIn
@@ -174,18 +198,20 @@ module _ (source : Source) where
       let leaves = h .leaves in
       let parts = leaves-more (take k us) (drop k us) in
       let same = ap (λ (l : List Placed). leavesAll (places l)) split in
+      let stood = g .leaves + leavesAll (places (take k us)) in
+      let front = droppedAll source (g .leaves) (places (take k us)) in
+      let back = droppedAll source stood (places (drop k us)) in
+      let rows : droppedAll source (g .leaves) (places us) ≡ front ++ back =
+      ap (λ (l : List Placed). droppedAll source (g .leaves) (places l)) (sym split) ∙ all-more source (take k us) (drop k us) (g .leaves) in
       record {
-        before = record { parents = b .parents; children = g .base ++ take k us; leaves = g .leaves + leavesAll (places (take k us)); dropped = g .dropped ++ droppedAll source (g .leaves) (places (take k us)) };
+        before = record { parents = b .parents; children = g .base ++ take k us; leaves = stood; dropped = g .dropped ++ front };
         level = record { inside = take k us; parents = h .parents; children = refl; leaves = refl; dropped = refl };
         since = drop k us;
         parents = refl;
         children = h .children ∙ ap (λ (l : List Placed). g .base ++ l) (sym split) ∙ sym (append-assoc (g .base) (take k us) (drop k us));
         counts = length-append (g .base) (take k us) ∙ ap (λ (n : ℕ). length (g .base) + n) (length-take-le k us count) ∙ sym sum;
         leaves = omega arith;
-        dropped =
-            h .dropped
-            ∙ ap (λ (l : List ℕ). g .dropped ++ l) (ap (λ (l : List Placed). droppedAll source (g .leaves) (places l)) (sym split) ∙ all-more source (take k us) (drop k us) (g .leaves))
-            ∙ sym (append-assoc (g .dropped) (droppedAll source (g .leaves) (places (take k us))) (droppedAll source (g .leaves + leavesAll (places (take k us))) (places (drop k us))));
+        dropped = h .dropped ∙ ap (λ (l : List ℕ). g .dropped ++ l) rows ∙ sym (append-assoc (g .dropped) front back);
       }
 
   -- a wrap: a node was begun at the mark, and in it one is closed around what came since
@@ -193,14 +219,22 @@ module _ (source : Source) where
       → let arg = node ClauseArgument place place (places (cut .since)) in
       rows (cut .before .leaves) none ≡ []
       → rows (cut .before .leaves) (places (arg ∷ [])) ≡ droppedAll source (cut .before .leaves) (places (cut .since))
-      → Level (rows (cut .before .leaves)) (below kind place (cut .before)) (closed place (opened place ClauseArgument mark (opened place kind mark b)))
+      → Level (rows (cut .before .leaves)) (below kind place (cut .before))
+      (closed place (opened place ClauseArgument mark (opened place kind mark b)))
   unfolding opened leavesAll
   wrapped {b} rows place kind mark cut none-rows arg-rows =
       let before = cut .before in
       let since = cut .since in
+      let within = opened place ClauseArgument mark (opened place kind mark b) in
       let outer : Level (rows (before .leaves)) (below kind place before) (opened place kind mark before) =
-      record { inside = []; parents = rw (cut .counts); children = sym (append-nil (before .children)); leaves = omega arith; dropped = sym (rw none-rows (append-nil (before .dropped))) } in
-      let inner : Level (droppedAll source (before .leaves)) (below ClauseArgument place (opened place kind mark before)) (opened place ClauseArgument mark (opened place kind mark b)) =
+      record {
+        inside = [];
+        parents = rw (cut .counts);
+        children = sym (append-nil (before .children));
+        leaves = omega arith;
+        dropped = sym (rw none-rows (append-nil (before .dropped)));
+      } in
+      let inner : Level (droppedAll source (before .leaves)) (below ClauseArgument place (opened place kind mark before)) within =
       record {
         inside = since;
         parents = rw (cut .parents, cut .counts);

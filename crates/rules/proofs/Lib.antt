@@ -1,10 +1,12 @@
 -- Theorems about the rules alone, and the laws by which other crates use their definitions.
+pub mod Agreed
 pub mod Alike
 pub mod Asked
 pub mod Characters
 pub mod Checks
 pub mod Choices
 pub mod Control
+pub mod Depth
 pub mod Exactly
 pub mod Flat
 pub mod Goes

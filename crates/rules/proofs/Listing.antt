@@ -1,5 +1,5 @@
--- The laws by which callers use the definition of a listing: a number's digits, the next row of a walk over rows, and a row's numbers as a part of its
--- table. Assumes nothing.
+-- The laws by which callers use the definition of a listing: a number's digits, the next row of a walk over rows, and a row's numbers as a part of
+-- its table. Assumes nothing.
 use Prim.Native.Nat.{ℕ, zero, suc, _+_, _*_, _-_, _/_, _%_, _^_, _≤_, _<_}
 use mathlib.Core.List.{List, [], _∷_, _++_}
 use mathlib.Core.Path.{_≡_}
@@ -42,7 +42,8 @@ decimal-high n high = rw (le-ltb n 10 high, enough n (suc (n / 10)) (n / 10) (om
 
 -- ---- rows one after the other
 pub tree-next : (tree : List ℕ) (count row depth : ℕ) → row < count
-    → treeLines tree (count - row) row depth ≡ treeLine tree row depth ++ treeLines tree (count - (row + 1)) (row + 1) (openAfter (tagAt tree row) depth)
+    → treeLines tree (count - row) row depth
+    ≡ treeLine tree row depth ++ treeLines tree (count - (row + 1)) (row + 1) (openAfter (tagAt tree row) depth)
 unfolding treeLines
 tree-next tree count row depth there = rw (one-more count row there)
 
@@ -147,11 +148,13 @@ unfolding treeLine
 tree-line-few tree row depth words low =
     let deep = word-few depth low in
     let kind = kindAt tree row in
+    let from = cell Limits.treeWidth tree row 2 in
+    let size = cell Limits.treeWidth tree row 3 in
     either (eqb (tagAt tree row) tagStart)
     (λ start. rw start (omega (arith, line-long (decimal depth) (kind ∷ []), one-long kind, word-few kind (words _))))
     (λ other.
     either (eqb (tagAt tree row) tagLeaf)
-    (λ leaf. rw (other, leaf) (omega (arith, three-long (decimal depth) kind (cell Limits.treeWidth tree row 2) (cell Limits.treeWidth tree row 3) (words _) (words _) (words _))))
+    (λ leaf. rw (other, leaf) (omega (arith, three-long (decimal depth) kind from size (words _) (words _) (words _))))
     (λ none. rw (other, none) (omega arith)))
 
 tree-lines-few : (tree : List ℕ) (rows row depth : ℕ) → Words tree → depth + rows < 2 ^ 32 → length (treeLines tree rows row depth) ≤ rows * 44
@@ -160,30 +163,41 @@ tree-lines-few tree zero row depth words low = omega arith
 tree-lines-few tree (suc rows) row depth words low =
     let after = openAfter (tagAt tree row) depth in
     let most = open-after-most (tagAt tree row) depth in
-    omega
-    (arith, length-append (treeLine tree row depth) (treeLines tree rows (row + 1) after), tree-line-few tree row depth words (omega arith), tree-lines-few tree rows (row + 1) after words (omega arith))
+    let own = tree-line-few tree row depth words (omega arith) in
+    let rest = tree-lines-few tree rows (row + 1) after words (omega arith) in
+    omega (arith, length-append (treeLine tree row depth) (treeLines tree rows (row + 1) after))
 
 dropped-lines-few : (dropped : List ℕ) (rows row : ℕ) → Words dropped → length (droppedLines dropped rows row) ≤ rows * 35
 unfolding droppedLines droppedLine
 dropped-lines-few dropped zero row words = omega arith
 dropped-lines-few dropped (suc rows) row words =
-    omega
-    (arith, length-append (droppedLine dropped row) (droppedLines dropped rows (row + 1)), three-long wordD (cell Limits.droppedWidth dropped row 0) (cell Limits.droppedWidth dropped row 1) (cell Limits.droppedWidth dropped row 2) (words _) (words _) (words _), dropped-lines-few dropped rows (row + 1) words)
+    let number : ℕ → ℕ = λ column. cell Limits.droppedWidth dropped row column in
+    let own = three-long wordD (number 0) (number 1) (number 2) (words _) (words _) (words _) in
+    let rest = dropped-lines-few dropped rows (row + 1) words in
+    omega (arith, length-append (droppedLine dropped row) (droppedLines dropped rows (row + 1)))
 
 -- the lines of every answer in 64 bits, on buffers that are no larger than the program's
 abbrev pub InWords : Answer → Type 0
 InWords (accepted rows count) = (rows < 2 ^ 64) × (count < 2 ^ 64)
 InWords (refusedAt number place) = (number < 2 ^ 64) × (place < 2 ^ 64)
 
-accepted-few : (tree dropped : List ℕ) (rows count shown told : ℕ) → (rows < 2 ^ 64) × (count < 2 ^ 64) → Words tree → Words dropped
-    → length tree ≤ treeRows * Limits.treeWidth → length dropped ≤ droppedRows * Limits.droppedWidth → shown ≤ rowCount tree → told ≤ length dropped / Limits.droppedWidth
+accepted-few : (tree dropped : List ℕ) (rows count shown told : ℕ)
+    → (rows < 2 ^ 64) × (count < 2 ^ 64)
+    → Words tree
+    → Words dropped
+    → length tree ≤ treeRows * Limits.treeWidth
+    → length dropped ≤ droppedRows * Limits.droppedWidth
+    → shown ≤ rowCount tree
+    → told ≤ length dropped / Limits.droppedWidth
     → length (line wordOk (rows ∷ count ∷ []) ++ (treeLines tree shown 0 0 ++ droppedLines dropped told 0)) ≤ mostPrinted
 accepted-few tree dropped rows count shown told low wt wd lt ld hs ht =
     let first = line wordOk (rows ∷ count ∷ []) in
     let second = treeLines tree shown 0 0 in
     let third = droppedLines dropped told 0 in
-    omega
-    (arith, length-append first (second ++ third), length-append second third, head-long wordOk rows count (low .0) (low .1), tree-lines-few tree shown 0 0 wt (omega arith), dropped-lines-few dropped told 0 wd)
+    let head = head-long wordOk rows count (low .0) (low .1) in
+    let lines = tree-lines-few tree shown 0 0 wt (omega arith) in
+    let notes = dropped-lines-few dropped told 0 wd in
+    omega (arith, length-append first (second ++ third), length-append second third)
 
 pub listing-few : (answer : Answer) (tree dropped : List ℕ) → InWords answer → Words tree → Words dropped → length tree ≤ treeRows * Limits.treeWidth
     → length dropped ≤ droppedRows * Limits.droppedWidth → length (listing answer tree dropped) ≤ mostPrinted

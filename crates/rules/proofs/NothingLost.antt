@@ -1,5 +1,6 @@
--- Demand 3's first half, of every accepted run, on the buffers after it and the answer's counts: each token is a leaf, the parts of a split Word, or one dropped
--- row; putting back gives the token texts; so inputs whose texts differ never share what is put together. What the checks and the reading tell. Assumes nothing.
+-- Demand 3's first half, of every accepted run, on the buffers after it and the answer's counts: each token is a leaf, the parts of a split Word, or
+-- one dropped row; putting back gives the token texts; so inputs whose texts differ never share what is put together. What the checks and the reading
+-- tell. Assumes nothing.
 use Prim.Native.Nat.{ℕ, _/_}
 use mathlib.Core.Path.{_≡_, refl, sym, ap, _∙_}
 use mathlib.Core.List.{List}
@@ -17,10 +18,10 @@ use Rattle.rules.specs.Reading.{parse}
 use Rattle.rules.specs.Run.{accepted, over, afterReading, afterChecks, run}
 use Rattle.rules.specs.Tables.{tokenCount}
 use Rattle.rules.proofs.Checks
-use Rattle.rules.proofs.Handed.{IfWent, goes}
+use Rattle.rules.proofs.Goes.{Goes, goes}
 use Rattle.rules.proofs.HandedRows.{HasRead, rows-front, rows-read}
 use Rattle.rules.proofs.PutBack.{put-back, rises}
-use Rattle.rules.proofs.Reached.{Sound, all-told}
+use Rattle.rules.proofs.Reached.{before, Sound, all-told}
 
 -- tables that passed the checks
 pub sound : (t : Tables) (dropped : ℕ) → Checks.Accepted t dropped → Sound (sourceOf t)
@@ -37,15 +38,23 @@ module _ (t : Tables) (tree dropped : List ℕ) where
   abbrev Told : ℕ → ℕ → List ℕ → List ℕ → Type 0
   Told rows drops tree dropped = EachToken (t .tokens) 0 0 (leaves (treeRows rows tree)) (droppedRows drops dropped)
 
-  told : (b : Built) → HasRead (sourceOf t) b (record { token = tokenCount (t .tokens); taken = 0 })
+  -- all tokens were handed over
+  abbrev AllRead : Built → Type 0
+  AllRead b = HasRead (sourceOf t) (before (tokenCount (t .tokens))) b
+
+  told : (b : Built)
+      → AllRead b
       → Told (b .tree .rows) (length (b .dropped) / droppedWidth) (over (b .tree .tree) tree) (over (b .dropped) dropped)
   told b h =
       let long = h .tied .long in
       let count : length (b .dropped) / droppedWidth ≡ length (h .ds) = omega arith in
-      rw (count, rows-front treeWidth (b .tree .rows) (b .tree .tree) (drop (length (b .tree .tree)) tree) (h .tied .size), rows-front droppedWidth (length (h .ds)) (b .dropped) (drop (length (b .dropped)) dropped) long, h .tied .leaves, h .tied .dropped)
-      (all-told (sourceOf t) refl refl (h .reached))
+      let tree-front = rows-front treeWidth (b .tree .rows) (b .tree .tree) (drop (length (b .tree .tree)) tree) (h .tied .size) in
+      let dropped-front = rows-front droppedWidth (length (h .ds)) (b .dropped) (drop (length (b .dropped)) dropped) long in
+      rw (count, tree-front, dropped-front, h .tied .leaves, h .tied .dropped) (all-told (sourceOf t) refl refl (h .reached))
 
-  after-reading : {rows drops : ℕ} (o : Out (Pos Built Mark)) → IfWent (λ q. HasRead (sourceOf t) (q .built) (record { token = tokenCount (t .tokens); taken = 0 })) o → afterReading tree dropped o .answer ≡ accepted rows drops
+  after-reading : {rows drops : ℕ} (o : Out (Pos Built Mark))
+      → Goes (λ q. AllRead (q .built)) o
+      → afterReading tree dropped o .answer ≡ accepted rows drops
       → Told rows drops (afterReading tree dropped o .tree) (afterReading tree dropped o .dropped)
   after-reading {rows} {drops} (went p) (goes h) e =
       let same-rows : p .built .tree .rows ≡ rows = cc in
@@ -53,10 +62,13 @@ module _ (t : Tables) (tree dropped : List ℕ) where
       rw (same-rows, same-drops) at (told (p .built) h)
   after-reading (refused number place) h e = let z : _≡_ {A = ℕ} 0 1 = cc in absurd (omega arith)
 
-  after-checks : {rows drops : ℕ} (o : Option Refusal) → checks t (length dropped) ≡ o → afterChecks o t tree dropped .answer ≡ accepted rows drops
+  after-checks : {rows drops : ℕ} (o : Option Refusal)
+      → checks t (length dropped) ≡ o
+      → afterChecks o t tree dropped .answer ≡ accepted rows drops
       → Told rows drops (afterChecks o t tree dropped .tree) (afterChecks o t tree dropped .dropped)
   after-checks none passed e =
-      after-reading (parse (flat (length tree)) (sourceOf t) empty) (rows-read (length tree) (sourceOf t) (sound t (length dropped) (Checks.accepted t (length dropped) passed))) e
+      let tables = sound t (length dropped) (Checks.accepted t (length dropped) passed) in
+      after-reading (parse (flat (length tree)) (sourceOf t) empty) (rows-read (length tree) (sourceOf t) tables) e
   after-checks (some refusal) passed e = let z : _≡_ {A = ℕ} 0 1 = cc in absurd (omega arith)
 
 -- ---- the theorems
@@ -80,8 +92,10 @@ module _ (t : Tables) (tree dropped : List ℕ) {rows drops : ℕ} (e : run t tr
   texts-return = rw sub-zero at (put-back (t .text) (t .tokens) each-token)
 
 -- "So two accepted inputs whose joined texts differ never share tree, leaf texts and dropped list with its texts."
-pub never-share : (t t′ : Tables) (tree dropped tree′ dropped′ : List ℕ) {rows drops rows′ drops′ : ℕ} (e : run t tree dropped .answer ≡ accepted rows drops) (e′ : run t′ tree′ dropped′ .answer ≡ accepted rows′ drops′)
+pub never-share : (t t′ : Tables) (tree dropped tree′ dropped′ : List ℕ) {rows drops rows′ drops′ : ℕ}
+    (e : run t tree dropped .answer ≡ accepted rows drops) (e′ : run t′ tree′ dropped′ .answer ≡ accepted rows′ drops′)
     → (tokenTexts (t .text) (t .tokens) ≡ tokenTexts (t′ .text) (t′ .tokens) → ⊥)
     → storedOf t tree dropped e ≡ storedOf t′ tree′ dropped′ e′
     → ⊥
-never-share t t′ tree dropped tree′ dropped′ e e′ differ same = differ (sym (texts-return t tree dropped e) ∙ ap putBack same ∙ texts-return t′ tree′ dropped′ e′)
+never-share t t′ tree dropped tree′ dropped′ e e′ differ same =
+    differ (sym (texts-return t tree dropped e) ∙ ap putBack same ∙ texts-return t′ tree′ dropped′ e′)

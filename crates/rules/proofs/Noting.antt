@@ -1,5 +1,5 @@
--- Rowan's builder and the one that notes places stand for each other: without its places, what the second holds is what the first holds. So where rowan's run is
--- accepted the other is too, with the same tree and the same dropped rows. Assumes nothing.
+-- Rowan's builder and the one that notes places stand for each other: without its places, what the second holds is what the first holds. So where
+-- rowan's run is accepted the other is too, with the same tree and the same dropped rows. Assumes nothing.
 use Prim.Native.Nat.{ℕ, zero, suc, _+_, _/_}
 use mathlib.Core.Path.{_≡_, refl, sym, ap, ap₂, subst, _∙_}
 use mathlib.Core.Bool.{Bool, true, false, cond}
@@ -7,7 +7,6 @@ use mathlib.Core.List.{List, [], _∷_, _++_}
 use native.Mathlib.Omega.{arith}
 use lib.Dec.{ltb, leb}
 use lib.ListN.{length, take, drop}
-use Rattle.rules.specs.Builder.{Leaf}
 use Rattle.rules.specs.Flat.{droppedRow}
 use Rattle.rules.specs.Limits.{treeWidth, nodes}
 use Rattle.rules.specs.Outcome.{Out, went, refused, markBeforeNode, tooManyOpen, noRoom}
@@ -17,11 +16,10 @@ use Rattle.rules.specs.Position.{Pos, Source}
 use Rattle.rules.specs.Reading.{parse}
 use Rattle.rules.specs.Rowan
 use Rattle.rules.specs.Rowan.{Parent, Green, firstOf, markPastLast, rowan}
-use Rattle.rules.specs.SyntaxKind.{ScopeRoot}
 use Rattle.rules.specs.Tree as tree
 use Rattle.rules.specs.Tree.{Tree, Forest, forest}
-use Rattle.rules.proofs.Related.{OutRel, went~, refused~, skipped~, weaker~}
-use Rattle.rules.proofs.Sim.{Sub, nil, keep, omit, Node, Level, World, node, _◂_, innermost, Sim}
+use Rattle.rules.proofs.Related.{Relation, OutRel, went~, refused~, skipped~, gate~, first~, weaker~}
+use Rattle.rules.proofs.Sim.{Pairs, no-marks, both, pairs-sub, Node, World, node, _◂_, innermost, MarkKeeps, ForgetKeeps, LeafKeeps, StartKeeps, StartAtKeeps, FinishKeeps, EndGives, DropKeeps, Sim}
 use Rattle.rules.proofs.Simulation.{Ended, ended, simulation}
 
 -- ---- without places
@@ -68,20 +66,58 @@ pub record Twin (a : Green) (b : Placing) : Type 0 where
   pub leaves : a .leaves ≡ b .leaves
   pub dropped : a .dropped ≡ b .dropped
 
+-- ---- what each operation makes of both
+
+child-more : {a : Green} {b : Placing} (x : Placed) → Twin a b → a .children ++ (bare x ∷ []) ≡ trees (b .children ++ (x ∷ []))
+child-more {b} x twin = ap (λ (l : List Tree). l ++ (bare x ∷ [])) (twin .children) ∙ sym (trees-append (b .children) (x ∷ []))
+
+same-count : {a : Green} {b : Placing} → Twin a b → length (a .children) ≡ length (b .children)
+same-count {b} t = ap (λ (l : List Tree). length l) (t .children) ∙ trees-length (b .children)
+
+pushed-twin : {a : Green} {b : Placing} (place kind first : ℕ) → Twin a b → Twin (Rowan.pushed kind first a) (Placed.opened place kind first b)
+unfolding Rowan.pushed Placed.opened
+pushed-twin place kind first t =
+    record {
+      parents = ap (λ (l : List Parent). record { kind = kind; first = first } ∷ l) (t .parents);
+      children = t .children;
+      leaves = t .leaves;
+      dropped = t .dropped;
+    }
+
+popped-parents : (place : ℕ) (ps : List Opened) (cs : List Placed) → Rowan.popped (opens ps) (trees cs) .0 ≡ opens (Placed.closedOver place ps cs .0)
+popped-parents place [] cs = refl
+popped-parents place (p ∷ ps) cs = refl
+
+popped-children : (place : ℕ) (ps : List Opened) (cs : List Placed)
+    → Rowan.popped (opens ps) (trees cs) .1 ≡ trees (Placed.closedOver place ps cs .1)
+unfolding bare
+popped-children place [] cs = refl
+popped-children place (p ∷ ps) cs =
+    let closed = Placed.node (p .kind) (p .from) place (places (drop (p .first) cs)) in
+    rw (trees-take (p .first) cs, trees-drop (p .first) cs, trees-forest (drop (p .first) cs))
+    (sym (trees-append (take (p .first) cs) (closed ∷ [])))
+
+-- a node is closed, with whatever count of rows
+abbrev poppedOf : Green → ℕ → Green
+poppedOf a rows =
+    let left = Rowan.popped (a .parents) (a .children) in
+    record { parents = left .0; children = left .1; rows = rows; leaves = a .leaves; dropped = a .dropped }
+
+popped-twin : {a : Green} {b : Placing} (rows place : ℕ) → Twin a b → Twin (poppedOf a rows) (Placed.closed place b)
+unfolding Placed.closed
+popped-twin {b} rows place t =
+    record {
+      parents = rw (t .parents, t .children) (popped-parents place (b .parents) (b .children));
+      children = rw (t .parents, t .children) (popped-children place (b .parents) (b .children));
+      leaves = t .leaves;
+      dropped = t .dropped;
+    }
+
 -- ---- the relation
 
 -- rowan's may refuse: the other has no limits
 abbrev pub Any : ℕ → Type 0
 Any number = Unit {0}
-
-data Pairs : List (ℕ × ℕ) → Type 0 where
-  no-marks : Pairs []
-  both : (m : ℕ) {l : List (ℕ × ℕ)} → Pairs l → Pairs ((m, m) ∷ l)
-
-pairs-sub : {less live : List (ℕ × ℕ)} → Sub less live → Pairs live → Pairs less
-pairs-sub nil no-marks = no-marks
-pairs-sub (keep sub) (both m pairs) = both m (pairs-sub sub pairs)
-pairs-sub (omit sub) (both m pairs) = pairs-sub sub pairs
 
 module _ (room : ℕ) where
   abbrev Over : Type 0
@@ -95,102 +131,68 @@ module _ (room : ℕ) where
   data Same : Over → Green → Placing → Type 0 where
     same : {w : Over} {a : Green} {b : Placing} → Even w → Twin a b → Same w a b
 
-  abbrev O : {X Y : Type 0} → (X → Y → Type 0) → Out X → Out Y → Type 0
-  O Q = OutRel Any Any Q
-
-  room~ : {X Y : Type 0} {Q : X → Y → Type 0} {x : Out X} {y : Out Y} (place : ℕ) (t : Bool) → O Q x y → O Q (cond t x (refused noRoom place)) y
-  room~ place true h = h
-  room~ place false h = skipped~ noRoom place _ tt
-
-  gate~ : {X Y : Type 0} {Q : X → Y → Type 0} {x : Out X} {y : Out Y} (number place : ℕ) (t : Bool) → O Q x y → O Q (cond t (refused number place) x) y
-  gate~ number place true h = skipped~ number place _ tt
-  gate~ number place false h = h
-
-  -- a test that both make
-  both~ : {X Y : Type 0} {Q : X → Y → Type 0} {x : Out X} {y : Out Y} (t : Bool) (number place : ℕ) → O Q x y → O Q (cond t (refused number place) x) (cond t (refused number place) y)
-  both~ true number place h = refused~ number place tt
-  both~ false number place h = h
-
-  -- ---- the operations
-
-  child-more : {a : Green} {b : Placing} (x : Placed) → Twin a b → a .children ++ (bare x ∷ []) ≡ trees (b .children ++ (x ∷ []))
-  child-more {b} x twin = ap (λ (l : List Tree). l ++ (bare x ∷ [])) (twin .children) ∙ sym (trees-append (b .children) (x ∷ []))
-
-  leafs : (place : ℕ) (l : Leaf) {top : Level (rowan room) placing} {w : Over} {a : Green} {b : Placing} → Same (top ∷ w) a b → O (Same (top ∷ w)) (rowan room .leaf place l a) (placing .leaf place l b)
-  unfolding Rowan.token Placed.leafed bare
-  leafs place l (same {a} even t) =
-      room~ place (ltb (a .rows) (room / treeWidth))
-      (went~ (same even (record { parents = t .parents; children = child-more (Placed.leaf l) t; leaves = ap (λ (n : ℕ). n + 1) (t .leaves); dropped = t .dropped })))
-
   carried : {w : Over} → Even w → Pairs (innermost w)
   carried outside = no-marks
   carried (inside pairs even) = pairs
 
-  pushed-twin : {a : Green} {b : Placing} (place kind first : ℕ) → Twin a b → Twin (Rowan.pushed kind first a) (Placed.opened place kind first b)
-  unfolding Rowan.pushed Placed.opened
-  pushed-twin place kind first t =
-      record { parents = ap (λ (l : List Parent). record { kind = kind; first = first } ∷ l) (t .parents); children = t .children; leaves = t .leaves; dropped = t .dropped }
+  abbrev O : Relation Green Placing → Out Green → Out Placing → Type 0
+  O Q = OutRel Any Any Q
 
-  same-count : {a : Green} {b : Placing} → Twin a b → length (a .children) ≡ length (b .children)
-  same-count {b} t = ap (λ (l : List Tree). length l) (t .children) ∙ trees-length (b .children)
+  -- ---- rowan's own tests
 
-  starts : (place kind : ℕ) {w : Over} {a : Green} {b : Placing} → Same w a b → O (Same (node kind tt tt ◂ innermost w ∷ w)) (rowan room .start place kind a) (placing .start place kind b)
+  room~ : {Q : Relation Green Placing} {x : Out Green} {y : Out Placing} (place : ℕ) (t : Bool) → O Q x y → O Q (cond t x (refused noRoom place)) y
+  room~ place true h = h
+  room~ place false h = skipped~ noRoom place _ tt
+
+  opens~ : {Q : Relation Green Placing} {x : Out Green} {y : Out Placing} (place : ℕ) (a : Green)
+      → O Q x y
+      → O Q (Rowan.orTooManyOpen place a (Rowan.orNoRoom room place a x)) y
+  opens~ place a h = first~ tooManyOpen place (leb nodes (length (a .parents))) tt (room~ place (ltb (a .rows) (room / treeWidth)) h)
+
+  -- ---- the operations
+
+  leafs : LeafKeeps (rowan room) placing Any Any Same
+  unfolding Rowan.token Placed.leafed bare
+  leafs place l top w a b (same even t) =
+      let leaves = ap (λ (n : ℕ). n + 1) (t .leaves) in
+      room~ place (ltb (a .rows) (room / treeWidth))
+      (went~ (same even (record { parents = t .parents; children = child-more (Placed.leaf l) t; leaves = leaves; dropped = t .dropped })))
+
+  starts : StartKeeps (rowan room) placing Any Any Same
   unfolding Rowan.startNode
-  starts place kind (same {a} {b} even t) =
-      gate~ tooManyOpen place (leb nodes (length (a .parents)))
-      (room~ place (ltb (a .rows) (room / treeWidth)) (went~ (same (inside (carried even) even) (rw (same-count t) (pushed-twin place kind (length (b .children)) t)))))
+  starts place kind w a b (same even t) =
+      opens~ place a (went~ (same (inside (carried even) even) (rw (same-count t) (pushed-twin place kind (length (b .children)) t))))
 
-  startAts : (place kind : ℕ) {n : Node (rowan room) placing} {x : ℕ × ℕ} {older : List (ℕ × ℕ)} {w : Over} {a : Green} {b : Placing} → Same (n ◂ (x ∷ older) ∷ w) a b
-      → O (Same (node kind tt tt ◂ (x ∷ older) ∷ n ◂ (x ∷ older) ∷ w)) (rowan room .startAt place kind (x .0) a) (placing .startAt place kind (x .1) b)
+  startAts : StartAtKeeps (rowan room) placing Any Any Same
   unfolding Rowan.startNodeAt Placed.openedAt
-  startAts place kind (same {a} {b} (inside (both m pairs) even) t) =
+  startAts place kind n _ older w a b (same (inside (both m pairs) even) t) =
       let count = same-count t in
       let first : firstOf (a .parents) ≡ Placed.firstOf (b .parents) = ap (λ (l : List Parent). firstOf l) (t .parents) ∙ opens-first (b .parents) in
       rw (count, first)
-      (both~ (ltb (length (b .children)) m) markPastLast place
-      (both~ (ltb m (Placed.firstOf (b .parents))) markBeforeNode place
-      (gate~ tooManyOpen place (leb nodes (length (a .parents)))
-      (room~ place (ltb (a .rows) (room / treeWidth)) (went~ (same (inside (both m pairs) (inside (both m pairs) even)) (pushed-twin place kind m t)))))))
+      (gate~ markPastLast place (ltb (length (b .children)) m) _ tt refl (λ _.
+      gate~ markBeforeNode place (ltb m (Placed.firstOf (b .parents))) _ tt refl (λ _.
+      opens~ place a (went~ (same (inside (both m pairs) (inside (both m pairs) even)) (pushed-twin place kind m t))))))
 
-  popped-parents : (place : ℕ) (ps : List Opened) (cs : List Placed) → Rowan.popped (opens ps) (trees cs) .0 ≡ opens (Placed.closedOver place ps cs .0)
-  popped-parents place [] cs = refl
-  popped-parents place (p ∷ ps) cs = refl
-
-  popped-children : (place : ℕ) (ps : List Opened) (cs : List Placed) → Rowan.popped (opens ps) (trees cs) .1 ≡ trees (Placed.closedOver place ps cs .1)
-  unfolding bare
-  popped-children place [] cs = refl
-  popped-children place (p ∷ ps) cs =
-      rw (trees-take (p .first) cs, trees-drop (p .first) cs, trees-forest (drop (p .first) cs)) (sym (trees-append (take (p .first) cs) (Placed.node (p .kind) (p .from) place (places (drop (p .first) cs)) ∷ [])))
-
-  popped-twin : {a : Green} {b : Placing} (rows place : ℕ) → Twin a b
-      → Twin (record { parents = Rowan.popped (a .parents) (a .children) .0; children = Rowan.popped (a .parents) (a .children) .1; rows = rows; leaves = a .leaves; dropped = a .dropped }) (Placed.closed place b)
-  unfolding Placed.closed
-  popped-twin {a} {b} rows place t =
-      record {
-        parents = rw (t .parents, t .children) (popped-parents place (b .parents) (b .children));
-        children = rw (t .parents, t .children) (popped-children place (b .parents) (b .children));
-        leaves = t .leaves;
-        dropped = t .dropped;
-      }
-
-  finishes : (place : ℕ) {n : Node (rowan room) placing} {live : List (ℕ × ℕ)} {top : Level (rowan room) placing} {w : Over} {a : Green} {b : Placing} → Same (n ◂ live ∷ top ∷ w) a b
-      → O (Same (top ∷ w)) (rowan room .finish place (n .kind) (n .left) a) (placing .finish place (n .kind) (n .right) b)
+  finishes : FinishKeeps (rowan room) placing Any Any Same
   unfolding Rowan.finishNode
-  finishes place (same {a} (inside pairs even) t) = room~ place (ltb (a .rows) (room / treeWidth)) (went~ (same even (popped-twin (a .rows + 1) place t)))
+  finishes place n live top w a b (same (inside pairs even) t) =
+      room~ place (ltb (a .rows) (room / treeWidth)) (went~ (same even (popped-twin (a .rows + 1) place t)))
 
-  ends : (place : ℕ) {f g : Unit {0}} {live : List (ℕ × ℕ)} {a : Green} {b : Placing} → Same (node ScopeRoot f g ◂ live ∷ []) a b → O Twin (rowan room .finish place ScopeRoot f a) (placing .finish place ScopeRoot g b)
+  ends : EndGives (rowan room) placing Any Any Same Twin
   unfolding Rowan.finishNode
-  ends place (same {a} (inside pairs even) t) = room~ place (ltb (a .rows) (room / treeWidth)) (went~ (popped-twin (a .rows + 1) place t))
+  ends place f g live a b (same (inside pairs even) t) = room~ place (ltb (a .rows) (room / treeWidth)) (went~ (popped-twin (a .rows + 1) place t))
 
-  marks : {n : Node (rowan room) placing} {live : List (ℕ × ℕ)} {w : Over} {a : Green} {b : Placing} → Same (n ◂ live ∷ w) a b → Same (n ◂ ((length (a .children), length (b .children)) ∷ live) ∷ w) a b
-  marks {a} {b} (same (inside pairs even) t) = rw (same-count t) (same (inside (both (length (b .children)) pairs) even) t)
+  marks : MarkKeeps (rowan room) placing Any Any Same
+  marks n live w a b (same (inside pairs even) t) = rw (same-count t) (same (inside (both (length (b .children)) pairs) even) t)
 
-  forgets : {n : Node (rowan room) placing} {less live : List (ℕ × ℕ)} {w : Over} {a : Green} {b : Placing} → Sub less live → Same (n ◂ live ∷ w) a b → Same (n ◂ less ∷ w) a b
-  forgets sub (same (inside pairs even) t) = same (inside (pairs-sub sub pairs) even) t
+  forgets : ForgetKeeps (rowan room) placing Any Any Same
+  forgets n less live w a b sub (same (inside pairs even) t) = same (inside (pairs-sub sub pairs) even) t
 
-  drops : (token reason : ℕ) {w : Over} {a : Green} {b : Placing} → Same w a b → Same w (rowan room .drop token reason a) (placing .drop token reason b)
+  drops : DropKeeps (rowan room) placing Any Any Same
   unfolding Placed.noted
-  drops token reason (same even t) = same even (record { parents = t .parents; children = t .children; leaves = t .leaves; dropped = ap₂ (λ (d : List ℕ) (n : ℕ). d ++ droppedRow token reason n) (t .dropped) (t .leaves) })
+  drops token reason w a b (same even t) =
+      let dropped = ap₂ (λ (d : List ℕ) (n : ℕ). d ++ droppedRow token reason n) (t .dropped) (t .leaves) in
+      same even (record { parents = t .parents; children = t .children; leaves = t .leaves; dropped = dropped })
 
   pub noting-sim : Sim (rowan room) placing Any Any
   noting-sim =
@@ -211,16 +213,27 @@ module _ (room : ℕ) where
         deep = tt;
       }
 
-  as-twin : (p : Pos Green ℕ) (q : Pos Placing ℕ) → Ended noting-sim p q → Twin (p .built) (q .built)
-  unfolding noting-sim
-  as-twin _ _ (ended c h twin) = twin
+-- ---- runs
 
-  -- where rowan's run is accepted, the other is, with the same tree and the same dropped rows
-  pub noted-run : (source : Source) → OutRel Any Any (λ (p : Pos Green ℕ) (q : Pos Placing ℕ). Twin (p .built) (q .built)) (parse (rowan room) source Rowan.nothing) (parse placing source Placed.nothing)
-  unfolding noting-sim
-  noted-run source = weaker~ as-twin (simulation noting-sim source (same outside (record { parents = refl; children = refl; leaves = refl; dropped = refl })))
+-- two ends with the same tree and the same dropped rows
+abbrev pub TwinAt : Relation (Pos Green ℕ) (Pos Placing ℕ)
+TwinAt p q = Twin (p .built) (q .built)
 
-pub accepted-noted : {o : Out (Pos Green ℕ)} {u : Out (Pos Placing ℕ)} {p : Pos Green ℕ} → OutRel Any Any (λ (p : Pos Green ℕ) (q : Pos Placing ℕ). Twin (p .built) (q .built)) o u → o ≡ went p → (q : Pos Placing ℕ) × (u ≡ went q) × Twin (p .built) (q .built)
+as-twin : (room : ℕ) (p : Pos Green ℕ) (q : Pos Placing ℕ) → Ended (noting-sim room) p q → TwinAt p q
+unfolding noting-sim
+as-twin room _ _ (ended c h twin) = twin
+
+-- where rowan's run is accepted, the other is, with the same tree and the same dropped rows
+pub noted-run : (room : ℕ) (source : Source) → OutRel Any Any TwinAt (parse (rowan room) source Rowan.nothing) (parse placing source Placed.nothing)
+unfolding noting-sim
+noted-run room source =
+    let twin : Twin Rowan.nothing Placed.nothing = record { parents = refl; children = refl; leaves = refl; dropped = refl } in
+    weaker~ (as-twin room) (simulation (noting-sim room) source (same outside twin))
+
+pub accepted-noted : {o : Out (Pos Green ℕ)} {u : Out (Pos Placing ℕ)} {p : Pos Green ℕ}
+    → OutRel Any Any TwinAt o u
+    → o ≡ went p
+    → (q : Pos Placing ℕ) × (u ≡ went q) × Twin (p .built) (q .built)
 accepted-noted {p} (went~ {x} {y} twin) e =
     let is : x ≡ p = cc in
     (y, refl, subst (λ (r : Pos Green ℕ). Twin (r .built) (y .built)) is twin)

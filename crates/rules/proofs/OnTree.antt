@@ -22,14 +22,18 @@ module _ (n : ℕ) where
   same-rest q x (refused number at) = refl
 
   -- an operation of the rows and then a step that is one too
-  then-rows : (q : At (flat n)) (o : Out Rows) (f : Rows → Out Rows) (F : At (flat n) → Out (At (flat n))) → ((x : Rows) → F (withRows q x) ≡ atRows q (f x)) → bind (atRows q o) F ≡ atRows q (bind o f)
+  then-rows : (q : At (flat n)) (o : Out Rows) (f : Rows → Out Rows) (F : At (flat n) → Out (At (flat n)))
+      → ((x : Rows) → F (withRows q x) ≡ atRows q (f x))
+      → bind (atRows q o) F ≡ atRows q (bind o f)
   then-rows q (went x) f F h = h x
   then-rows q (refused number at) f F h = refl
 
   pub wrap-rows : (kind : ℕ) (m : Mark) (q : At (flat n)) → wrap (flat n) kind m q ≡ atRows q (rows.wrap n (place (flat n) q) kind m (q .built .tree))
   unfolding wrap rows.wrap
   wrap-rows kind m q =
-      then-rows q (rows.startAt n (place (flat n) q) kind m (q .built .tree)) _ _ (λ outer.
-      then-rows (withRows q outer) (rows.startAt n (place (flat n) q) ClauseArgument m outer) _ _ (λ inner.
-      same-rest (withRows q outer) inner (rows.finish n (place (flat n) q) ClauseArgument (rows.frameOf outer) inner))
-      ∙ same-rest q outer (bind (rows.startAt n (place (flat n) q) ClauseArgument m outer) (λ inner. rows.finish n (place (flat n) q) ClauseArgument (rows.frameOf outer) inner)))
+      let at = place (flat n) q in
+      let opens : Rows → Out Rows = λ outer. rows.startAt n at ClauseArgument m outer in
+      let ends : Rows → Rows → Out Rows = λ outer inner. rows.finish n at ClauseArgument (rows.frameOf outer) inner in
+      then-rows q (rows.startAt n at kind m (q .built .tree)) _ _ (λ outer.
+      then-rows (withRows q outer) (opens outer) _ _ (λ inner. same-rest (withRows q outer) inner (ends outer inner))
+      ∙ same-rest q outer (bind (opens outer) (ends outer)))

@@ -1,5 +1,5 @@
--- A step of the cursor: behind it the cursor stands before a token or in the middle of a Word, and less is left to read. A Word's characters have a byte or
--- more each, and the last ends where the Word does. Assumes nothing.
+-- A step of the cursor: behind it the cursor stands before a token or in the middle of a Word, and less is left to read. A Word's characters have a
+-- byte or more each, and the last ends where the Word does. Assumes nothing.
 use Prim.Native.Nat.{ℕ, _+_, _-_, _≤_, _<_}
 use mathlib.Core.Path.{_≡_, sym, ap, _∙_}
 use mathlib.Core.Bool.{true}
@@ -23,8 +23,12 @@ part-length : (text : List ℕ) (start size : ℕ) → start + size ≤ length t
 part-length text start size inside = let long = length-drop start text in length-take-le size (drop start text) (omega arith)
 
 -- so many bytes of a part less
-part-rest : (text : List ℕ) (start size rest : ℕ) → start + size ≤ length text → drop size (part text start (size + rest)) ≡ part text (start + size) rest
-part-rest text start size rest inside = rw (part-add text start size rest) (drop-at (part text start size) (part text (start + size) rest) size (part-length text start size inside))
+part-rest : (text : List ℕ) (start size rest : ℕ)
+    → start + size ≤ length text
+    → drop size (part text start (size + rest)) ≡ part text (start + size) rest
+part-rest text start size rest inside =
+    let long = part-length text start size inside in
+    rw (part-add text start size rest) (drop-at (part text start size) (part text (start + size) rest) size long)
 
 module _ {source : Source} (sound : Sound source) where
   -- of a token less is taken than it has bytes, or nothing
@@ -108,9 +112,12 @@ module _ {source : Source} (sound : Sound source) where
       unfolding peekText restStart restLength
       passed-text =
           let inside = rest-inside in
-          let from : startAt (source .tokens) (c .token) + (c .taken + size) ≡ startAt (source .tokens) (c .token) + c .taken + size = omega arith in
-          let rest : lengthAt (source .tokens) (c .token) - c .taken ≡ size + (lengthAt (source .tokens) (c .token) - (c .taken + size)) = omega arith in
-          rw from (sym (ap (λ (n : ℕ). drop size (part (source .text) (startAt (source .tokens) (c .token) + c .taken) n)) rest ∙ part-rest (source .text) (startAt (source .tokens) (c .token) + c .taken) size (lengthAt (source .tokens) (c .token) - (c .taken + size)) (omega arith)))
+          let start = startAt (source .tokens) (c .token) in
+          let long = lengthAt (source .tokens) (c .token) in
+          let from : start + (c .taken + size) ≡ start + c .taken + size = omega arith in
+          let rest : long - c .taken ≡ size + (long - (c .taken + size)) = omega arith in
+          let cut = part-rest (source .text) (start + c .taken) size (long - (c .taken + size)) (omega arith) in
+          rw from (sym (ap (λ (n : ℕ). drop size (part (source .text) (start + c .taken) n)) rest ∙ cut))
 
       passed-short : c .taken + size < lengthAt (source .tokens) (c .token)
       unfolding restLength
@@ -118,10 +125,9 @@ module _ {source : Source} (sound : Sound source) where
 
       pub part-stands : Standing source passed
       part-stands =
-          record {
-            inside = omega arith;
-            midway = λ _. record { there = there; word = word; less = passed-short; utf8 = rw passed-text (utf8-again (peekText (source .text) (source .tokens) c) rest-utf8) };
-          }
+          let utf8 : isUtf8 (peekText (source .text) (source .tokens) passed) ≡ true =
+          rw passed-text (utf8-again (peekText (source .text) (source .tokens) c) rest-utf8) in
+          record { inside = omega arith; midway = λ _. record { there = there; word = word; less = passed-short; utf8 = utf8 } }
 
       pub part-less : left (source .tokens) passed < left (source .tokens) c
       unfolding left

@@ -1,5 +1,5 @@
--- Where each token is a leaf, the parts of a split Word or one dropped row, putting back gives the token texts, and dropped rows rise by token: by induction
--- over the tokens. A dropped row is met before the next leaf is, and not again, as later places have larger counts. Assumes nothing.
+-- Where each token is a leaf, the parts of a split Word or one dropped row, putting back gives the token texts, and dropped rows rise by token: by
+-- induction over the tokens. A dropped row is met before the next leaf is, and not again, as later places have larger counts. Assumes nothing.
 use Prim.Native.Nat.{ℕ, suc, _+_, _-_, _≤_, _<_}
 use mathlib.Core.Path.{_≡_, refl, sym, ap, _∙_}
 use mathlib.Core.List.{List, [], _∷_, _++_, append-assoc}
@@ -10,6 +10,7 @@ use lib.Seq.{drop-drop, take-add}
 use borrow.Author.Tests.{eq-eqb, ne-eqb}
 use Rattle.rules.specs.Flat.{droppedRow}
 use Rattle.rules.specs.Tables.{tokenCount, part}
+use Rattle.rules.proofs.Reached.{Leaves, Dropped}
 use Rattle.rules.specs.PutBack.{textsOf, tokenText, withTexts, droppedAfter, backFrom, textsFrom, Parts, last, more, EachToken, end, leaf, split, drops, Rises, none, next}
 
 -- ---- dropped texts that stand elsewhere
@@ -33,38 +34,50 @@ module _ (d : List ℕ × List ℕ) (ds : List (List ℕ × List ℕ)) where
   -- and at its place it comes first
   back-here : (k : ℕ) (leaves : List (List ℕ)) → before ≡ k → backFrom k leaves (d ∷ ds) ≡ d .1 ++ backFrom k leaves ds
   back-here k [] e = after-here k e
-  back-here k (l ∷ leaves) e = rw (after-here k e, back-past (k + 1) leaves (omega arith)) (append-assoc (d .1) (droppedAfter k ds) (l ++ backFrom (k + 1) leaves ds))
+  back-here k (l ∷ leaves) e =
+      rw (after-here k e, back-past (k + 1) leaves (omega arith)) (append-assoc (d .1) (droppedAfter k ds) (l ++ backFrom (k + 1) leaves ds))
 
 -- ---- the parts of a range are the range's text
 
 pub part-add : (text : List ℕ) (start size rest : ℕ) → part text start (size + rest) ≡ part text start size ++ part text (start + size) rest
-part-add text start size rest = take-add size rest (drop start text) ∙ ap (λ (l : List ℕ). part text start size ++ take rest l) (drop-drop size start text)
+part-add text start size rest =
+    take-add size rest (drop start text) ∙ ap (λ (l : List ℕ). part text start size ++ take rest l) (drop-drop size start text)
 
 module _ (text tokens : List ℕ) where
   abbrev left : List (List ℕ) → List (List ℕ × List ℕ)
   left dropped = withTexts text tokens dropped
 
   -- where no dropped text stands among the parts of a range, they give its text
-  parts-text : {start size : ℕ} {parts : List (ℕ × ℕ)} (leaves : List (ℕ × ℕ)) (ds : List (List ℕ × List ℕ)) (k : ℕ) → Parts start size parts → ((j : ℕ) → j < k + length parts → droppedAfter j ds ≡ [])
+  parts-text : {start size : ℕ} {parts : Leaves} (leaves : Leaves) (ds : List (List ℕ × List ℕ)) (k : ℕ)
+      → Parts start size parts
+      → ((j : ℕ) → j < k + length parts → droppedAfter j ds ≡ [])
       → backFrom k (textsOf text (parts ++ leaves)) ds ≡ part text start size ++ backFrom (k + length parts) (textsOf text leaves) ds
   parts-text {start} {size} leaves ds k (last some) away = rw (away k (omega arith))
   parts-text leaves ds k (more {start} {size} {rest} {parts} some others) away =
       let count : k + 1 + length parts ≡ k + suc (length parts) = omega arith in
-      rw (away k (omega arith), parts-text leaves ds (k + 1) others (λ j low. away j (omega arith)), part-add text start size rest, count)
+      let after = parts-text leaves ds (k + 1) others (λ j low. away j (omega arith)) in
+      rw (away k (omega arith), after, part-add text start size rest, count)
       (sym (append-assoc (part text start size) (part text (start + size) rest) (backFrom (k + suc (length parts)) (textsOf text leaves) ds)))
 
   -- no dropped text stands before the leaves that are yet to come
-  not-before : {i k : ℕ} {leaves : List (ℕ × ℕ)} {dropped : List (List ℕ)} → EachToken tokens i k leaves dropped → (j : ℕ) → j < k → droppedAfter j (left dropped) ≡ []
+  not-before : {i k : ℕ} {leaves : Leaves} {dropped : Dropped}
+      → EachToken tokens i k leaves dropped
+      → (j : ℕ)
+      → j < k
+      → droppedAfter j (left dropped) ≡ []
   not-before (end e) j low = refl
   not-before (leaf there rest) j low = not-before rest j (omega arith)
   not-before (split there word parts rest) j low = not-before rest j (omega arith)
-  not-before (drops {i} {k} {reason} {dropped} there rest) j low = after-other (droppedRow i reason k, tokenText text tokens i) (left dropped) j (λ e. omega arith) ∙ not-before rest j low
+  not-before (drops {i} {k} {reason} {dropped} there rest) j low =
+      after-other (droppedRow i reason k, tokenText text tokens i) (left dropped) j (λ e. omega arith) ∙ not-before rest j low
 
   -- the tokens that are yet to come
   yet : (i : ℕ) → i < tokenCount tokens → tokenCount tokens - i ≡ suc (tokenCount tokens - (i + 1))
   yet i there = omega arith
 
-  pub put-back : {i k : ℕ} {leaves : List (ℕ × ℕ)} {dropped : List (List ℕ)} → EachToken tokens i k leaves dropped → backFrom k (textsOf text leaves) (left dropped) ≡ textsFrom text tokens i (tokenCount tokens - i)
+  pub put-back : {i k : ℕ} {leaves : Leaves} {dropped : Dropped}
+      → EachToken tokens i k leaves dropped
+      → backFrom k (textsOf text leaves) (left dropped) ≡ textsFrom text tokens i (tokenCount tokens - i)
   put-back {i} (end e) = let over : tokenCount tokens - i ≡ 0 = omega arith in rw over
   put-back (leaf {i} {k} there rest) = rw (yet i there, not-before rest k (omega arith), put-back rest)
   put-back (split {i} {k} {parts} {leaves} {dropped} there word are rest) =
@@ -73,7 +86,11 @@ module _ (text tokens : List ℕ) where
       back-here (droppedRow i reason k, tokenText text tokens i) (left dropped) k (textsOf text leaves) refl ∙ rw (yet i there, put-back rest)
 
 -- each token is dropped at most once, and in the order of tokens
-pub rises : {tokens : List ℕ} {i k : ℕ} {leaves : List (ℕ × ℕ)} {dropped : List (List ℕ)} → EachToken tokens i k leaves dropped → (low : ℕ) → low ≤ i → Rises tokens low dropped
+pub rises : {tokens : List ℕ} {i k : ℕ} {leaves : Leaves} {dropped : Dropped}
+    → EachToken tokens i k leaves dropped
+    → (low : ℕ)
+    → low ≤ i
+    → Rises tokens low dropped
 rises (end e) low below = none
 rises (leaf there rest) low below = rises rest low (omega arith)
 rises (split there word parts rest) low below = rises rest low (omega arith)

@@ -127,7 +127,10 @@ module _ (edge tag at : ℕ) (inside : Option ℕ) where
   descend-into other node = rw (ne-eqb tag tagLeaf other, eq-eqb tag edge node)
 
 module _ (tree : List ℕ) (to at : ℕ) where
-  pub first-next : {tag : ℕ} → tag ≡ tagAt tree at → at < to → firstFrom tree (to - at) at ≡ descend tagStart tag at (firstFrom tree (to - (at + 1)) (at + 1))
+  pub first-next : {tag : ℕ}
+      → tag ≡ tagAt tree at
+      → at < to
+      → firstFrom tree (to - at) at ≡ descend tagStart tag at (firstFrom tree (to - (at + 1)) (at + 1))
   unfolding firstFrom
   first-next is there = rw (one-more to at there, ← is)
 

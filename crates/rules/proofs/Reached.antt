@@ -1,5 +1,5 @@
--- How far reading has come, as leaves and dropped rows: a cursor stands before a token or in the middle of a Word, each leaf takes what is left of the token or
--- a part of a Word, each dropped row a token. Read to the end, that is the statement token by token. Assumes nothing.
+-- How far reading has come, as leaves and dropped rows: a cursor stands before a token or in the middle of a Word, each leaf takes what is left of
+-- the token or a part of a Word, each dropped row a token. Read to the end, that is the statement token by token. Assumes nothing.
 use Prim.Native.Nat.{ℕ, suc, _+_, _≤_, _<_}
 use mathlib.Core.Path.{_≡_}
 use mathlib.Core.Bool.{true}
@@ -19,6 +19,21 @@ use Rattle.rules.specs.PutBack.{Parts, last, more, EachToken, end, leaf,
 use Rattle.rules.specs.Tables.{tokenCount, kindAt, startAt, lengthAt, part}
 use Rattle.rules.specs.Token
 use Rattle.rules.proofs.Characters.{either}
+
+-- leaves by start and length, and dropped rows
+abbrev pub Leaves : Type 0
+Leaves = List (ℕ × ℕ)
+
+abbrev pub Dropped : Type 0
+Dropped = List (List ℕ)
+
+-- the cursor in the middle of a Word, so many bytes on
+abbrev pub partly : Cursor → ℕ → Cursor
+partly c n = record { token = c .token; taken = c .taken + n }
+
+-- before a token
+abbrev pub before : ℕ → Cursor
+before token = record { token = token; taken = 0 }
 
 -- what the checks tell of the tokens: each lies in the text, and a Word is some characters
 pub record Sound (source : Source) : Type 0 where
@@ -51,88 +66,120 @@ module _ (source : Source) where
     pub inside : c .token ≤ tokenCount (source .tokens)
     pub midway : 1 ≤ c .taken → Midway c
 
-  pub data Reached : List (ℕ × ℕ) → List (List ℕ) → Cursor → Type 0 where
+  -- what is left of the next token
+  abbrev start : Cursor → ℕ
+  start c = restStart (source .tokens) c
+
+  abbrev size : Cursor → ℕ
+  size c = restLength (source .tokens) c
+
+  -- from a token on, behind so many leaves, each token is a leaf, the parts of a split Word or a dropped row
+  abbrev Each : ℕ → ℕ → Leaves → Dropped → Type 0
+  Each token k leaves dropped = EachToken (source .tokens) token k leaves dropped
+
+  pub data Reached : Leaves → Dropped → Cursor → Type 0 where
     nothing : Reached [] [] atStart
-    takes-rest : {leaves : List (ℕ × ℕ)} {dropped : List (List ℕ)} {c : Cursor} → Reached leaves dropped c → There c → Standing c
-        → Reached (leaves ++ ((restStart (source .tokens) c, restLength (source .tokens) c) ∷ [])) dropped (eaten c)
-    takes-part : {leaves : List (ℕ × ℕ)} {dropped : List (List ℕ)} {c : Cursor} {size : ℕ} → Reached leaves dropped c → There c → AtWord c → 1 ≤ size → size < restLength (source .tokens) c
-        → Reached (leaves ++ ((restStart (source .tokens) c, size) ∷ [])) dropped (record { token = c .token; taken = c .taken + size })
-    drops-it : {leaves : List (ℕ × ℕ)} {dropped : List (List ℕ)} {c : Cursor} (reason : ℕ) → Reached leaves dropped c → There c → c .taken ≡ 0
+    takes-rest : {leaves : Leaves} {dropped : Dropped} {c : Cursor}
+        → Reached leaves dropped c
+        → There c
+        → Standing c
+        → Reached (leaves ++ ((start c, size c) ∷ [])) dropped (eaten c)
+    takes-part : {leaves : Leaves} {dropped : Dropped} {c : Cursor} {n : ℕ}
+        → Reached leaves dropped c
+        → There c
+        → AtWord c
+        → 1 ≤ n
+        → n < size c
+        → Reached (leaves ++ ((start c, n) ∷ [])) dropped (partly c n)
+    drops-it : {leaves : Leaves} {dropped : Dropped} {c : Cursor} (reason : ℕ)
+        → Reached leaves dropped c
+        → There c
+        → c .taken ≡ 0
         → Reached leaves (dropped ++ (droppedRow (c .token) reason (length leaves) ∷ [])) (eaten c)
 
   -- ---- token by token
 
   -- the leaves and dropped rows from a cursor on, k leaves being written before them
-  data From : Cursor → ℕ → List (ℕ × ℕ) → List (List ℕ) → Type 0 where
-    at : {c : Cursor} {k : ℕ} {leaves : List (ℕ × ℕ)} {dropped : List (List ℕ)} → c .taken ≡ 0 → EachToken (source .tokens) (c .token) k leaves dropped → From c k leaves dropped
-    within : {c : Cursor} {k : ℕ} {parts leaves : List (ℕ × ℕ)} {dropped : List (List ℕ)} → 1 ≤ c .taken → Parts (restStart (source .tokens) c) (restLength (source .tokens) c) parts
-        → EachToken (source .tokens) (c .token + 1) (k + length parts) leaves dropped
+  data From : Cursor → ℕ → Leaves → Dropped → Type 0 where
+    at : {c : Cursor} {k : ℕ} {leaves : Leaves} {dropped : Dropped} → c .taken ≡ 0 → Each (c .token) k leaves dropped → From c k leaves dropped
+    within : {c : Cursor} {k : ℕ} {parts leaves : Leaves} {dropped : Dropped}
+        → 1 ≤ c .taken
+        → Parts (start c) (size c) parts
+        → Each (c .token + 1) (k + length parts) leaves dropped
         → From c k (parts ++ leaves) dropped
 
-  behind : (c : Cursor) {k : ℕ} {leaves : List (ℕ × ℕ)} {dropped : List (List ℕ)} → From (eaten c) k leaves dropped → EachToken (source .tokens) (c .token + 1) k leaves dropped
+  behind : (c : Cursor) {k : ℕ} {leaves : Leaves} {dropped : Dropped} → From (eaten c) k leaves dropped → Each (c .token + 1) k leaves dropped
   behind c (at e each) = each
   behind c (within some parts each) = absurd (omega arith)
 
   module _ (c : Cursor) where
-    rest-some : c .taken < lengthAt (source .tokens) (c .token) → 1 ≤ restLength (source .tokens) c
+    rest-some : c .taken < lengthAt (source .tokens) (c .token) → 1 ≤ size c
     unfolding restLength
     rest-some less = omega arith
 
-    pub whole-start : c .taken ≡ 0 → restStart (source .tokens) c ≡ startAt (source .tokens) (c .token)
+    pub whole-start : c .taken ≡ 0 → start c ≡ startAt (source .tokens) (c .token)
     unfolding restStart
     whole-start e = rw (e, add-zero)
 
-    pub whole-length : c .taken ≡ 0 → restLength (source .tokens) c ≡ lengthAt (source .tokens) (c .token)
+    pub whole-length : c .taken ≡ 0 → size c ≡ lengthAt (source .tokens) (c .token)
     unfolding restLength
     whole-length e = rw (e, sub-zero)
 
-    -- what is left of a token is a leaf
-    from-rest : {k : ℕ} {leaves : List (ℕ × ℕ)} {dropped : List (List ℕ)} → There c → Standing c → EachToken (source .tokens) (c .token + 1) (k + 1) leaves dropped
-        → From c k ((restStart (source .tokens) c, restLength (source .tokens) c) ∷ leaves) dropped
-    from-rest there stands each =
-        either (eqb (c .taken) 0)
-        (λ e. let none = eqb-true (c .taken) 0 e in rw (whole-start none, whole-length none) (at none (leaf there each)))
-        (λ e.
-        let some = eqb-false (c .taken) 0 e in
-        let mid = stands .midway (omega arith) in
-        within (omega arith) (last (rest-some (mid .less))) each)
+    module _ {k : ℕ} {leaves : Leaves} {dropped : Dropped} where
+      -- what is left of a token is a leaf
+      from-rest : There c → Standing c → Each (c .token + 1) (k + 1) leaves dropped → From c k ((start c, size c) ∷ leaves) dropped
+      from-rest there stands each =
+          either (eqb (c .taken) 0)
+          (λ e. let none = eqb-true (c .taken) 0 e in rw (whole-start none, whole-length none) (at none (leaf there each)))
+          (λ e.
+          let some = eqb-false (c .taken) 0 e in
+          let mid = stands .midway (omega arith) in
+          within (omega arith) (last (rest-some (mid .less))) each)
 
     -- a part of a Word is taken, and what follows are more parts of it
-    next-start : (size : ℕ) → restStart (source .tokens) (record { token = c .token; taken = c .taken + size }) ≡ restStart (source .tokens) c + size
+    next-start : (n : ℕ) → start (partly c n) ≡ start c + n
     unfolding restStart
-    next-start size = omega arith
+    next-start n = omega arith
 
-    next-length : (size : ℕ) → size < restLength (source .tokens) c → restLength (source .tokens) c ≡ size + restLength (source .tokens) (record { token = c .token; taken = c .taken + size })
+    next-length : (n : ℕ) → n < size c → size c ≡ n + size (partly c n)
     unfolding restLength
-    next-length size less = omega arith
+    next-length n less = omega arith
 
-    from-part : {k : ℕ} {leaves : List (ℕ × ℕ)} {dropped : List (List ℕ)} (size : ℕ) → There c → AtWord c → 1 ≤ size → size < restLength (source .tokens) c
-        → From (record { token = c .token; taken = c .taken + size }) (k + 1) leaves dropped
-        → From c k ((restStart (source .tokens) c, size) ∷ leaves) dropped
-    from-part size there word some less (at e each) = absurd (omega arith)
-    from-part {k} size there word some less (within {parts} taken are each) =
+    from-part : {k : ℕ} {leaves : Leaves} {dropped : Dropped} (n : ℕ)
+        → There c
+        → AtWord c
+        → 1 ≤ n
+        → n < size c
+        → From (partly c n) (k + 1) leaves dropped
+        → From c k ((start c, n) ∷ leaves) dropped
+    from-part n there word some less (at e each) = absurd (omega arith)
+    from-part {k} n there word some less (within {parts} taken are each) =
         let count : k + 1 + length parts ≡ k + suc (length parts) = omega arith in
-        let all : Parts (restStart (source .tokens) c) (restLength (source .tokens) c) ((restStart (source .tokens) c, size) ∷ parts) = rw (next-length size less) (more some (rw (next-start size) at are)) in
+        let all : Parts (start c) (size c) ((start c, n) ∷ parts) = rw (next-length n less) (more some (rw (next-start n) at are)) in
         either (eqb (c .taken) 0)
-        (λ e. let none = eqb-true (c .taken) 0 e in rw (whole-start none) (at none (split there word (rw (whole-start none, whole-length none) at all) (rw count at each))))
+        (λ e.
+        let none = eqb-true (c .taken) 0 e in
+        rw (whole-start none) (at none (split there word (rw (whole-start none, whole-length none) at all) (rw count at each))))
         (λ e. let some = eqb-false (c .taken) 0 e in within (omega arith) all (rw count at each))
 
   -- what is reached, and then the rest
-  told : {leaves : List (ℕ × ℕ)} {dropped : List (List ℕ)} {c : Cursor} {leaves′ : List (ℕ × ℕ)} {dropped′ : List (List ℕ)} → Reached leaves dropped c → From c (length leaves) leaves′ dropped′
-      → EachToken (source .tokens) 0 0 (leaves ++ leaves′) (dropped ++ dropped′)
+  told : {leaves leaves′ : Leaves} {dropped dropped′ : Dropped} {c : Cursor}
+      → Reached leaves dropped c
+      → From c (length leaves) leaves′ dropped′
+      → Each 0 0 (leaves ++ leaves′) (dropped ++ dropped′)
   told nothing (at e each) = each
   told nothing (within some are each) = absurd (omega arith)
   told {leaves′} (takes-rest {leaves} {c} reached there stands) from =
-      rw (append-snoc leaves (restStart (source .tokens) c, restLength (source .tokens) c) leaves′)
-      (told reached (from-rest c there stands (rw length-append at (behind c from))))
-  told {leaves′} (takes-part {leaves} {c} {size} reached there word some less) from =
-      rw (append-snoc leaves (restStart (source .tokens) c, size) leaves′)
-      (told reached (from-part c size there word some less (rw length-append at from)))
+      rw (append-snoc leaves (start c, size c) leaves′) (told reached (from-rest c there stands (rw length-append at (behind c from))))
+  told {leaves′} (takes-part {leaves} {c} {n} reached there word some less) from =
+      rw (append-snoc leaves (start c, n) leaves′) (told reached (from-part c n there word some less (rw length-append at from)))
   told {dropped′} (drops-it {leaves} {dropped} {c} reason reached there whole) from =
-      rw (append-snoc dropped (droppedRow (c .token) reason (length leaves)) dropped′)
-      (told reached (at whole (drops there (behind c from))))
+      rw (append-snoc dropped (droppedRow (c .token) reason (length leaves)) dropped′) (told reached (at whole (drops there (behind c from))))
 
   -- read to the end
-  pub all-told : {leaves : List (ℕ × ℕ)} {dropped : List (List ℕ)} {c : Cursor} → c .token ≡ tokenCount (source .tokens) → c .taken ≡ 0 → Reached leaves dropped c
-      → EachToken (source .tokens) 0 0 leaves dropped
+  pub all-told : {leaves : Leaves} {dropped : Dropped} {c : Cursor}
+      → c .token ≡ tokenCount (source .tokens)
+      → c .taken ≡ 0
+      → Reached leaves dropped c
+      → Each 0 0 leaves dropped
   all-told {leaves} {dropped} over whole reached = rw (append-nil leaves, append-nil dropped) at (told reached (at whole (end over)))

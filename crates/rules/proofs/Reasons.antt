@@ -1,5 +1,5 @@
--- The reason of each dropped row fits its token's kind: trivia is a blank, a break or a comment, an opener opens a body, a closer is a \fi. By going down the
--- definition of what is dropped. Assumes nothing.
+-- The reason of each dropped row fits its token's kind: trivia is a blank, a break or a comment, an opener opens a body, a closer is a \fi. By going
+-- down the definition of what is dropped. Assumes nothing.
 use Prim.Native.Nat.{ℕ, zero, suc, _+_, _-_, _*_}
 use mathlib.Core.Path.{_≡_, refl}
 use mathlib.Core.Bool.{Bool, true, false, cond, _&&_, _||_, false≢true}
@@ -48,11 +48,13 @@ module _ (source : Source) where
   blanks-rows : (n token leaves : ℕ) → Rows (blanksFrom source n token leaves)
   unfolding blanksFrom
   blanks-rows zero token leaves = no-rows
-  blanks-rows (suc n) token leaves = both-rows (cond-rows (isBlank source token) (λ e. one-row token reasonTrivia leaves (trivia e)) no-rows) (blanks-rows n (token + 1) leaves)
+  blanks-rows (suc n) token leaves =
+      both-rows (cond-rows (isBlank source token) (λ e. one-row token reasonTrivia leaves (trivia e)) no-rows) (blanks-rows n (token + 1) leaves)
 
   passed-rows : (behind : ℕ) (t : Placed) (leaves : ℕ) → Rows (passedBefore source behind t leaves)
   passed-rows behind (leaf l) leaves = no-rows
-  passed-rows behind (node kind from to inside) leaves = cond-rows (eqb kind SyntaxKind.ClauseArgument) (λ _. blanks-rows (from - behind) behind leaves) no-rows
+  passed-rows behind (node kind from to inside) leaves =
+      cond-rows (eqb kind SyntaxKind.ClauseArgument) (λ _. blanks-rows (from - behind) behind leaves) no-rows
 
   opens : (a b c d : Bool) → (a && c) || (b && d) ≡ true → c || (d || false) ≡ true
   opens a b true d e = refl
@@ -64,7 +66,8 @@ module _ (source : Source) where
 
   opener-fits : (kind from : ℕ) → isBody source kind from ≡ true → Reason source from reasonOpener
   unfolding isBody
-  opener-fits kind from e = opener (opens (eqb kind SyntaxKind.ItemBlockComment) (eqb kind SyntaxKind.ItemTypstCode) (eqb (kindOf source from) Token.IfFalse) (eqb (kindOf source from) Token.IfTypst) e)
+  opener-fits kind from e =
+      opener (opens (eqb kind SyntaxKind.ItemBlockComment) (eqb kind SyntaxKind.ItemTypstCode) (eqb (kindOf source from) Token.IfFalse) _ e)
 
   -- a closer, if there is one, is a \fi
   data Closes : Option ℕ → Type 0 where
@@ -79,7 +82,8 @@ module _ (source : Source) where
   unfolding closing
   closing-closes zero unclosed token = open-ended
   closing-closes (suc n) unclosed token =
-      closes-if (eqb Token.EndIf (kindOf source token)) (λ e. closes-if (eqb unclosed 0) (λ _. closes token e) (closing-closes n (unclosed - 1) (token + 1)))
+      closes-if (eqb Token.EndIf (kindOf source token))
+      (λ e. closes-if (eqb unclosed 0) (λ _. closes token e) (closing-closes n (unclosed - 1) (token + 1)))
       (closes-if (opensIf source token) (λ _. closing-closes n (unclosed + 1) (token + 1)) (closing-closes n unclosed (token + 1)))
 
   closer-rows : {o : Option ℕ} (leaves : ℕ) → Closes o → Rows (closerRow source o leaves)
@@ -94,8 +98,9 @@ module _ (source : Source) where
     pub dropped-rows : (t : Placed) (leaves : ℕ) → Rows (droppedIn source leaves t)
     dropped-rows (leaf l) leaves = no-rows
     dropped-rows (node kind from to inside) leaves =
-        cond-rows (isBody source kind from)
-        (λ e. both-rows (one-row from reasonOpener leaves (opener-fits kind from e)) (closer-rows (leaves + leavesAll inside) (closing-closes (tokenCount (source .tokens) - (from + 1)) 0 (from + 1))))
+        let left = tokenCount (source .tokens) - (from + 1) in
+        let closed = closer-rows (leaves + leavesAll inside) (closing-closes left 0 (from + 1)) in
+        cond-rows (isBody source kind from) (λ e. both-rows (one-row from reasonOpener leaves (opener-fits kind from e)) closed)
         (cond-rows (passes source kind from) (λ _. passing-rows inside from leaves) (all-rows inside leaves))
 
     all-rows : (ts : Places) (leaves : ℕ) → Rows (droppedAll source leaves ts)
@@ -104,4 +109,5 @@ module _ (source : Source) where
 
     passing-rows : (ts : Places) (behind leaves : ℕ) → Rows (droppedPassing source behind leaves ts)
     passing-rows none behind leaves = no-rows
-    passing-rows (more t rest) behind leaves = both-rows (passed-rows behind t leaves) (both-rows (dropped-rows t leaves) (passing-rows rest (endOf source t) (leaves + leavesIn t)))
+    passing-rows (more t rest) behind leaves =
+        both-rows (passed-rows behind t leaves) (both-rows (dropped-rows t leaves) (passing-rows rest (endOf source t) (leaves + leavesIn t)))

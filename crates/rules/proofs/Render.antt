@@ -1,5 +1,5 @@
--- The rows of what rowan's two stacks hold: of each open parent its start row and the children that stand before the next one's first. Laws of how that
--- grows and where it parts, up to a child of the innermost parent. Assumes nothing.
+-- The rows of what rowan's two stacks hold: of each open parent its start row and the children that stand before the next one's first. Laws of how
+-- that grows and where it parts, up to a child of the innermost parent. Assumes nothing.
 use Prim.Native.Nat.{ℕ, _≤_}
 use mathlib.Core.Path.{_≡_, refl, sym, ap, _∙_}
 use mathlib.Core.List.{List, [], _∷_, _++_, append-assoc, append-nil}
@@ -28,14 +28,19 @@ unfolding layouts
 laid-one x = append-nil (layout x)
 
 -- what is rendered parts at any child of the innermost parent
-pub render-split : (ps : List Parent) (cs : List Tree) (n : ℕ) → firstOf ps ≤ n → n ≤ length cs → render ps cs ≡ render ps (take n cs) ++ laid (drop n cs)
+pub render-split : (ps : List Parent) (cs : List Tree) (n : ℕ)
+    → firstOf ps ≤ n
+    → n ≤ length cs
+    → render ps cs ≡ render ps (take n cs) ++ laid (drop n cs)
 render-split [] cs n low high = ap laid (sym (take-append-drop n cs)) ∙ laid-append (take n cs) (drop n cs)
 render-split (p ∷ ps) cs n low high =
     let long : length (take n cs) ≡ n = length-take-le n cs high in
     let inside : p .first ≤ length (take n cs) = omega arith in
-    let parts : drop (p .first) cs ≡ drop (p .first) (take n cs) ++ drop n cs = ap (λ (l : List Tree). drop (p .first) l) (sym (take-append-drop n cs)) ∙ drop-append-le (p .first) (take n cs) (drop n cs) inside in
-    rw (take-take (p .first) n cs low, ap laid parts ∙ laid-append (drop (p .first) (take n cs)) (drop n cs))
-    (sym (append-assoc (render ps (take (p .first) cs)) (startRow (p .kind) ++ laid (drop (p .first) (take n cs))) (laid (drop n cs))))
+    let own = drop (p .first) (take n cs) in
+    let parts : drop (p .first) cs ≡ own ++ drop n cs =
+    ap (λ (l : List Tree). drop (p .first) l) (sym (take-append-drop n cs)) ∙ drop-append-le (p .first) (take n cs) (drop n cs) inside in
+    rw (take-take (p .first) n cs low, ap laid parts ∙ laid-append own (drop n cs))
+    (sym (append-assoc (render ps (take (p .first) cs)) (startRow (p .kind) ++ laid own) (laid (drop n cs))))
 
 -- one more child
 pub render-more : (ps : List Parent) (cs : List Tree) (x : Tree) → firstOf ps ≤ length cs → render ps (cs ++ (x ∷ [])) ≡ render ps cs ++ layout x
@@ -52,9 +57,13 @@ render-open p ps cs e = rw (e, take-length cs, drop-length cs)
 pub render-close : (p : Parent) (ps : List Parent) (cs : List Tree) → firstOf ps ≤ length (take (p .first) cs)
     → render ps (take (p .first) cs ++ (nodeOf (p .kind) (drop (p .first) cs) ∷ [])) ≡ render (p ∷ ps) cs ++ finishRow (p .kind)
 unfolding layout
-render-close p ps cs low = render-more ps (take (p .first) cs) (nodeOf (p .kind) (drop (p .first) cs)) low ∙ sym (append-assoc (render ps (take (p .first) cs)) (startRow (p .kind) ++ laid (drop (p .first) cs)) (finishRow (p .kind)))
+render-close p ps cs low =
+    let stood = take (p .first) cs in
+    let own = drop (p .first) cs in
+    render-more ps stood (nodeOf (p .kind) own) low ∙ sym (append-assoc (render ps stood) (startRow (p .kind) ++ laid own) (finishRow (p .kind)))
 
 -- up to the first child of the innermost parent there is nothing of it but its start row
-pub render-first : (p : Parent) (ps : List Parent) (cs : List Tree) → render (p ∷ ps) (take (p .first) cs) ≡ render ps (take (p .first) cs) ++ startRow (p .kind)
+pub render-first : (p : Parent) (ps : List Parent) (cs : List Tree)
+    → render (p ∷ ps) (take (p .first) cs) ≡ render ps (take (p .first) cs) ++ startRow (p .kind)
 unfolding layouts
 render-first p ps cs = rw (take-take (p .first) (p .first) cs (omega arith), slice-empty (p .first) cs)

@@ -1,5 +1,5 @@
--- The laws by which callers use the definition of a sheet: how many numbers are read, and that the sections of a sheet that is read lie inside it, since
--- each ends where the next begins and the last where the sheet does. Assumes nothing.
+-- The laws by which callers use the definition of a sheet: how many numbers are read, and that the sections of a sheet that is read lie inside it,
+-- since each ends where the next begins and the last where the sheet does. Assumes nothing.
 use Prim.Native.Nat.{ℕ, zero, suc, _+_, _*_, _/_, _%_, _≤_}
 use mathlib.Core.Bool.{true, and-eq-true-iff}
 use mathlib.Core.List.{List, [], _∷_, _++_}
@@ -24,7 +24,8 @@ module _ (sheet : List ℕ) where
   numbers-more at zero = rw (add-zero at)
   numbers-more at (suc count) =
       let on : at + numberBytes + count * numberBytes ≡ at + suc count * numberBytes = omega arith in
-      ap (λ (l : List ℕ). numberAt sheet at ∷ l) (numbers-more (at + numberBytes) count ∙ ap (λ (k : ℕ). numbersAt sheet (at + numberBytes) count ++ (numberAt sheet k ∷ [])) on)
+      let rest = numbersAt sheet (at + numberBytes) count in
+      ap (λ (l : List ℕ). numberAt sheet at ∷ l) (numbers-more (at + numberBytes) count ∙ ap (λ (k : ℕ). rest ++ (numberAt sheet k ∷ [])) on)
 
   pub table-long : (at : ℕ) → length (tableAt sheet at) ≡ numberAt sheet at / numberBytes
   table-long at = numbers-long (bytesFrom at) (numberAt sheet at / numberBytes)
@@ -62,7 +63,10 @@ module _ (sheet : List ℕ) where
 
   pub text-inside : Whole → bytesFrom textAt + numberAt sheet textAt ≤ length sheet
   text-inside w =
-      omega (arith, w .end, ends-behind textAt, ends-behind (tokensAt sheet), ends-behind (shapesAt sheet), ends-behind (statesAt sheet))
+      let tokens = ends-behind (tokensAt sheet) in
+      let shapes = ends-behind (shapesAt sheet) in
+      let states = ends-behind (statesAt sheet) in
+      omega (arith, w .end, ends-behind textAt)
 
   pub text-long : Whole → length (tablesOf sheet .text) ≡ numberAt sheet textAt
   text-long w =
@@ -72,8 +76,10 @@ module _ (sheet : List ℕ) where
   -- a table's numbers take four times as many bytes, which lie inside the sheet: so all tables together have room in a fourth of a sheet's bytes
   pub numbers-few : Whole → length (tablesOf sheet .tokens) + (length (tablesOf sheet .shapes) + length (tablesOf sheet .states)) ≤ mostNumbers
   numbers-few w =
-      omega
-      (arith, w .short, w .end, ends-behind textAt, ends-behind (tokensAt sheet), ends-behind (shapesAt sheet), ends-behind (statesAt sheet), table-long (tokensAt sheet), table-long (shapesAt sheet), table-long (statesAt sheet))
+      let tokens = ends-behind (tokensAt sheet) in
+      let shapes = ends-behind (shapesAt sheet) in
+      let states = ends-behind (statesAt sheet) in
+      omega (arith, w .short, w .end, ends-behind textAt, table-long (tokensAt sheet), table-long (shapesAt sheet), table-long (statesAt sheet))
 
   -- so refusal 2 never comes of one
   pub tokens-few : Whole → tokenCount (tablesOf sheet .tokens) ≤ droppedRows

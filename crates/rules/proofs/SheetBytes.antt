@@ -1,6 +1,6 @@
--- A sheet is read exactly when it is the bytes of tables. From tables to bytes: each section is found where the one before it ends, whatever stands around
--- it. From bytes to tables: what is cut out of a sheet of bytes from a place on, as a number or a section, has that part of the sheet as its bytes.
--- Assumes nothing.
+-- A sheet is read exactly when it is the bytes of tables. From tables to bytes: each section is found where the one before it ends, whatever stands
+-- around it. From bytes to tables: what is cut out of a sheet of bytes from a place on, as a number or a section, has that part of the sheet as its
+-- bytes. Assumes nothing.
 use Prim.Native.Nat.{ℕ, zero, suc, _+_, _*_, _/_, _%_, _^_, _≤_, _<_}
 use mathlib.Core.Bool.{true}
 use mathlib.Core.List.{List, [], _∷_, _++_, append-assoc, append-nil}
@@ -42,10 +42,11 @@ unfolding numbersAt bytesOfNumbers
 numbers-back pre post nothing = refl
 numbers-back pre post (number {n} {l} low more) =
     let before = pre ++ bytesOfNumber n in
-    let same : before ++ (bytesOfNumbers l ++ post) ≡ pre ++ (bytesOfNumber n ++ (bytesOfNumbers l ++ post)) = append-assoc pre (bytesOfNumber n) (bytesOfNumbers l ++ post) in
-    let rest : numbersAt (pre ++ (bytesOfNumber n ++ (bytesOfNumbers l ++ post))) (length pre + numberBytes) (length l) ≡ l =
+    let behind = bytesOfNumbers l ++ post in
+    let same : before ++ behind ≡ pre ++ (bytesOfNumber n ++ behind) = append-assoc pre (bytesOfNumber n) behind in
+    let rest : numbersAt (pre ++ (bytesOfNumber n ++ behind)) (length pre + numberBytes) (length l) ≡ l =
     rw (length-append pre (bytesOfNumber n), same) at (numbers-back before post more) in
-    rw (number-back pre (bytesOfNumbers l ++ post) n low, rest)
+    rw (number-back pre behind n low, rest)
 
 -- a section inside a sheet, with what stands before it and behind it
 module _ (pre b post : List ℕ) (short : length b < 2 ^ 32) where
@@ -82,11 +83,13 @@ module _ (pre post : List ℕ) {l : List ℕ} (ns : Numbers l) (short : length (
 
   table-back : tableAt (whole pre (bytesOfNumbers l) post short) (length pre) ≡ l
   table-back =
-      let count : length (bytesOfNumbers l) / numberBytes ≡ length l = omega (arith, bytes-long l) in
-      rw (size-back pre (bytesOfNumbers l) post short, count, bytes-from pre (bytesOfNumbers l) post short, as-three pre (bytesOfNumbers l) post short)
-      (numbers-back (pre ++ bytesOfNumber (length (bytesOfNumbers l))) post ns)
+      let b = bytesOfNumbers l in
+      let count : length b / numberBytes ≡ length l = omega (arith, bytes-long l) in
+      rw (size-back pre b post short, count, bytes-from pre b post short, as-three pre b post short)
+      (numbers-back (pre ++ bytesOfNumber (length b)) post ns)
 
-module _ (t : Tables) (tokens : Numbers (t .tokens)) (shapes : Numbers (t .shapes)) (states : Numbers (t .states)) (few : length (bytesOf t) ≤ mostBytes) where
+module _ (t : Tables) (tokens : Numbers (t .tokens)) (shapes : Numbers (t .shapes)) (states : Numbers (t .states))
+    (few : length (bytesOf t) ≤ mostBytes) where
   -- the sections, and what stands before each
   abbrev b₁ : List ℕ
   b₁ = bytesOfNumbers (t .tokens)
@@ -109,15 +112,22 @@ module _ (t : Tables) (tokens : Numbers (t .tokens)) (shapes : Numbers (t .shape
   abbrev pre₃ : List ℕ
   pre₃ = pre₂ ++ section b₂
 
-  is₀ : bytesOf t ≡ pre₀ ++ (section (t .text) ++ (section b₁ ++ (section b₂ ++ section b₃)))
+  -- and behind each
+  abbrev post₁ : List ℕ
+  post₁ = section b₂ ++ section b₃
+
+  abbrev post₀ : List ℕ
+  post₀ = section b₁ ++ post₁
+
+  is₀ : bytesOf t ≡ pre₀ ++ (section (t .text) ++ post₀)
   unfolding bytesOf
   is₀ = refl
 
-  is₁ : bytesOf t ≡ pre₁ ++ (section b₁ ++ (section b₂ ++ section b₃))
-  is₁ = is₀ ∙ sym (append-assoc pre₀ (section (t .text)) (section b₁ ++ (section b₂ ++ section b₃)))
+  is₁ : bytesOf t ≡ pre₁ ++ (section b₁ ++ post₁)
+  is₁ = is₀ ∙ sym (append-assoc pre₀ (section (t .text)) post₀)
 
   is₂ : bytesOf t ≡ pre₂ ++ (section b₂ ++ section b₃)
-  is₂ = is₁ ∙ sym (append-assoc pre₁ (section b₁) (section b₂ ++ section b₃))
+  is₂ = is₁ ∙ sym (append-assoc pre₁ (section b₁) post₁)
 
   is₃ : bytesOf t ≡ pre₃ ++ (section b₃ ++ [])
   is₃ = is₂ ∙ sym (append-assoc pre₂ (section b₂) (section b₃)) ∙ ap (λ (l : List ℕ). pre₃ ++ l) (sym (append-nil (section b₃)))
@@ -125,9 +135,11 @@ module _ (t : Tables) (tokens : Numbers (t .tokens)) (shapes : Numbers (t .shape
   -- their lengths
   long : length (bytesOf t) ≡ 1 + (4 + length (t .text) + (4 + length b₁ + (4 + length b₂ + (4 + length b₃))))
   long =
-      ap length is₀
-      ∙ omega
-      (arith, length-append (section (t .text)) (section b₁ ++ (section b₂ ++ section b₃)), length-append (section b₁) (section b₂ ++ section b₃), length-append (section b₂) (section b₃), length-append (bytesOfNumber (length (t .text))) (t .text), length-append (bytesOfNumber (length b₁)) b₁, length-append (bytesOfNumber (length b₂)) b₂, length-append (bytesOfNumber (length b₃)) b₃)
+      let sections = length-append (section (t .text)) post₀ in
+      let tables = length-append (section b₁) post₁ in
+      let last = length-append (section b₂) (section b₃) in
+      let one : (b : List ℕ) → length (section b) ≡ 4 + length b = λ b. length-append (bytesOfNumber (length b)) b in
+      ap length is₀ ∙ omega (arith, one (t .text), one b₁, one b₂, one b₃)
 
   short₀ : length (t .text) < 2 ^ 32
   short₀ = omega (arith, long)
@@ -143,10 +155,10 @@ module _ (t : Tables) (tokens : Numbers (t .tokens)) (shapes : Numbers (t .shape
 
   -- each section is found where the one before it ends
   at₁ : tokensAt (bytesOf t) ≡ length pre₁
-  at₁ = rw is₀ (end-back pre₀ (t .text) (section b₁ ++ (section b₂ ++ section b₃)) short₀)
+  at₁ = rw is₀ (end-back pre₀ (t .text) post₀ short₀)
 
   at₂ : shapesAt (bytesOf t) ≡ length pre₂
-  at₂ = rw at₁ (rw is₁ (end-back pre₁ b₁ (section b₂ ++ section b₃) short₁))
+  at₂ = rw at₁ (rw is₁ (end-back pre₁ b₁ post₁ short₁))
 
   at₃ : statesAt (bytesOf t) ≡ length pre₃
   at₃ = rw at₂ (rw is₂ (end-back pre₂ b₂ (section b₃) short₂))
@@ -158,7 +170,7 @@ module _ (t : Tables) (tokens : Numbers (t .tokens)) (shapes : Numbers (t .shape
   unfolding readable
   readable-back =
       let first : getD (bytesOf t) 0 0 ≡ version = rw is₀ in
-      let tokens₁ : wholeNumbers (bytesOf t) (tokensAt (bytesOf t)) ≡ true = rw at₁ (rw is₁ (whole-back pre₁ (section b₂ ++ section b₃) tokens short₁)) in
+      let tokens₁ : wholeNumbers (bytesOf t) (tokensAt (bytesOf t)) ≡ true = rw at₁ (rw is₁ (whole-back pre₁ post₁ tokens short₁)) in
       let shapes₁ : wholeNumbers (bytesOf t) (shapesAt (bytesOf t)) ≡ true = rw at₂ (rw is₂ (whole-back pre₂ (section b₃) shapes short₂)) in
       let states₁ : wholeNumbers (bytesOf t) (statesAt (bytesOf t)) ≡ true = rw at₃ (rw is₃ (whole-back pre₃ [] states short₃)) in
       rw (le-leb _ _ few, first, eq-eqb _ _ at-end, tokens₁, shapes₁, states₁)
@@ -168,8 +180,8 @@ module _ (t : Tables) (tokens : Numbers (t .tokens)) (shapes : Numbers (t .shape
   unfolding read
   read-back =
       let text₁ : tablesOf (bytesOf t) .text ≡ t .text =
-      rw is₀ (rw (size-back pre₀ (t .text) (section b₁ ++ (section b₂ ++ section b₃)) short₀) (part-back pre₀ (t .text) (section b₁ ++ (section b₂ ++ section b₃)) short₀)) in
-      let tokens₁ : tableAt (bytesOf t) (tokensAt (bytesOf t)) ≡ t .tokens = rw at₁ (rw is₁ (table-back pre₁ (section b₂ ++ section b₃) tokens short₁)) in
+      rw is₀ (rw (size-back pre₀ (t .text) post₀ short₀) (part-back pre₀ (t .text) post₀ short₀)) in
+      let tokens₁ : tableAt (bytesOf t) (tokensAt (bytesOf t)) ≡ t .tokens = rw at₁ (rw is₁ (table-back pre₁ post₁ tokens short₁)) in
       let shapes₁ : tableAt (bytesOf t) (shapesAt (bytesOf t)) ≡ t .shapes = rw at₂ (rw is₂ (table-back pre₂ (section b₃) shapes short₂)) in
       let states₁ : tableAt (bytesOf t) (statesAt (bytesOf t)) ≡ t .states = rw at₃ (rw is₃ (table-back pre₃ [] states short₃)) in
       rw (readable-back, text₁, tokens₁, shapes₁, states₁)
@@ -202,15 +214,20 @@ module _ (sheet : List ℕ) (bytes : Bytes sheet) where
       let one : at + 1 ≡ suc at = omega arith in
       let two : at + 2 ≡ suc (suc at) = omega arith in
       let three : at + 3 ≡ suc (suc (suc at)) = omega arith in
-      rw (one, two, three, drop-cons sheet at 0 (omega arith), drop-cons sheet (suc at) 0 (omega arith), drop-cons sheet (suc (suc at)) 0 (omega arith), drop-cons sheet (suc (suc (suc at))) 0 (omega arith))
+      let first = drop-cons sheet at 0 (omega arith) in
+      let second = drop-cons sheet (suc at) 0 (omega arith) in
+      let third = drop-cons sheet (suc (suc at)) 0 (omega arith) in
+      let fourth = drop-cons sheet (suc (suc (suc at))) 0 (omega arith) in
+      rw (one, two, three, first, second, third, fourth)
 
   number-bytes : (at : ℕ) → at + numberBytes ≤ length sheet → bytesOfNumber (numberAt sheet at) ≡ take numberBytes (drop at sheet)
   unfolding numberAt
   number-bytes at fits =
-      four-bytes (getD sheet at 0) (getD sheet (at + 1) 0) (getD sheet (at + 2) 0) (getD sheet (at + 3) 0) (bytes at) (bytes (at + 1)) (bytes (at + 2)) (bytes (at + 3))
-      ∙ sym (first-four at fits)
+      four-bytes _ _ _ _ (bytes at) (bytes (at + 1)) (bytes (at + 2)) (bytes (at + 3)) ∙ sym (first-four at fits)
 
-  numbers-bytes : (at count : ℕ) → at + count * numberBytes ≤ length sheet → bytesOfNumbers (numbersAt sheet at count) ≡ take (count * numberBytes) (drop at sheet)
+  numbers-bytes : (at count : ℕ)
+      → at + count * numberBytes ≤ length sheet
+      → bytesOfNumbers (numbersAt sheet at count) ≡ take (count * numberBytes) (drop at sheet)
   unfolding numbersAt bytesOfNumbers
   numbers-bytes at zero fits = refl
   numbers-bytes at (suc count) fits =
@@ -241,7 +258,10 @@ module _ (sheet : List ℕ) (bytes : Bytes sheet) where
       ap section same ∙ section-bytes at fits
 
   -- a part that ends where the next section begins
-  next : (at : ℕ) {bytes rest : List ℕ} → bytes ≡ take (numberBytes + numberAt sheet at) (drop at sheet) → rest ≡ drop (endOf sheet at) sheet → bytes ++ rest ≡ drop at sheet
+  next : (at : ℕ) {bytes rest : List ℕ}
+      → bytes ≡ take (numberBytes + numberAt sheet at) (drop at sheet)
+      → rest ≡ drop (endOf sheet at) sheet
+      → bytes ++ rest ≡ drop at sheet
   next at {bytes} {rest} e f =
       let on : at + (numberBytes + numberAt sheet at) ≡ endOf sheet at = omega (arith, ends-behind sheet at) in
       rw (e, f, ← on) (cut sheet at (numberBytes + numberAt sheet at))
@@ -254,8 +274,10 @@ module _ (sheet : List ℕ) (bytes : Bytes sheet) where
       let e₂ = ends-behind sheet (shapesAt sheet) in
       let e₃ = ends-behind sheet (statesAt sheet) in
       let end = w .end in
-      let last : section (bytesOfNumbers (tableAt sheet (statesAt sheet))) ≡ drop (statesAt sheet) sheet =
-      table-bytes (statesAt sheet) (omega arith) (w .states) ∙ take-all (numberBytes + numberAt sheet (statesAt sheet)) (drop (statesAt sheet) sheet) (omega (arith, length-drop (statesAt sheet) sheet)) in
+      let at = statesAt sheet in
+      let behind = length-drop at sheet in
+      let last : section (bytesOfNumbers (tableAt sheet at)) ≡ drop at sheet =
+      table-bytes at (omega arith) (w .states) ∙ take-all (numberBytes + numberAt sheet at) (drop at sheet) (omega arith) in
       let third = next (shapesAt sheet) (table-bytes (shapesAt sheet) (omega arith) (w .shapes)) last in
       let second = next (tokensAt sheet) (table-bytes (tokensAt sheet) (omega arith) (w .tokens)) third in
       let first = next textAt (section-bytes textAt (omega arith)) second in
@@ -266,5 +288,8 @@ module _ (sheet : List ℕ) (bytes : Bytes sheet) where
   unfolding read
   only-bytes {t} e =
       either (readable sheet)
-      (λ ok. let same : tablesOf sheet ≡ t = let is : some (tablesOf sheet) ≡ some t = rw ok at e in cc in rw (← same) (whole-bytes (whole-sheet sheet ok)))
+      (λ ok.
+      let is : some (tablesOf sheet) ≡ some t = rw ok at e in
+      let same : tablesOf sheet ≡ t = cc in
+      rw (← same) (whole-bytes (whole-sheet sheet ok)))
       (λ bad. let is : none ≡ some t = rw bad at e in let z : _≡_ {A = ℕ} 0 1 = cc in absurd (omega arith))

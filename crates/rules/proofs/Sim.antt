@@ -1,6 +1,6 @@
 -- One simulation theorem over the control part of the rules: two builders that are related, operation by operation, have related runs.
--- What may still be asked of a builder changes with the nodes that are open and the marks that are kept, so the relation is over a world that says it.
--- Assumes nothing.
+-- What may still be asked of a builder changes with the nodes that are open and the marks that are kept, so the relation is over a world that says
+-- it. Assumes nothing.
 use Prim.Native.Nat.{ℕ}
 use mathlib.Core.Path.{_≡_}
 use mathlib.Core.List.{List, [], _∷_, _++_}
@@ -11,7 +11,7 @@ use Rattle.rules.specs.Cursor.{Cursor}
 use Rattle.rules.specs.Position.{ListState, Pos}
 use Rattle.rules.specs.Scope.{Scope, Root}
 use Rattle.rules.specs.SyntaxKind.{ScopeRoot}
-use Rattle.rules.proofs.Related.{OutRel}
+use Rattle.rules.proofs.Related.{OutRel, Keeps}
 
 -- a list with some of its elements left out
 pub data Sub {T : Type 0} : List T → List T → Type 0 where
@@ -37,6 +37,16 @@ module _ {T : Type 0} where
   sub-trans (keep h) (keep k) = keep (sub-trans h k)
   sub-trans (omit h) (keep k) = omit (sub-trans h k)
   sub-trans h (omit k) = omit (sub-trans h k)
+
+-- marks that are the same on both sides
+pub data Pairs {T : Type 0} : List (T × T) → Type 0 where
+  no-marks : Pairs []
+  both : (m : T) {l : List (T × T)} → Pairs l → Pairs ((m, m) ∷ l)
+
+pub pairs-sub : {T : Type 0} {less live : List (T × T)} → Sub less live → Pairs live → Pairs less
+pairs-sub nil no-marks = no-marks
+pairs-sub (keep sub) (both m pairs) = both m (pairs-sub sub pairs)
+pairs-sub (omit sub) (both m pairs) = pairs-sub sub pairs
 
 -- ---- marks of both builders
 
@@ -101,10 +111,17 @@ pub record Node (A B : Builder) : Type 0 where
   pub left : A .Frame
   pub right : B .Frame
 
--- with the marks that may still be used in it, newest first
+-- a mark on both sides, and several
+abbrev pub BothMark : Builder → Builder → Type 0
+BothMark A B = A .Mark × B .Mark
+
+abbrev pub Marked : Builder → Builder → Type 0
+Marked A B = List (BothMark A B)
+
+-- an open node with the marks that may still be used in it, newest first
 pub record Level (A B : Builder) : Type 0 where
   pub node : Node A B
-  pub live : List (A .Mark × B .Mark)
+  pub live : Marked A B
 
 -- the open nodes, innermost first
 abbrev pub World : Builder → Builder → Type 0
@@ -114,10 +131,10 @@ module _ {A B : Builder} where
   abbrev pub node : ℕ → A .Frame → B .Frame → Node A B
   node kind f g = record { kind = kind; left = f; right = g }
 
-  abbrev pub _◂_ : Node A B → List (A .Mark × B .Mark) → Level A B
+  abbrev pub _◂_ : Node A B → Marked A B → Level A B
   _◂_ n live = record { node = n; live = live }
 
-  abbrev pub innermost : World A B → List (A .Mark × B .Mark)
+  abbrev pub innermost : World A B → Marked A B
   innermost [] = []
   innermost (top ∷ w) = top .live
 
@@ -126,38 +143,64 @@ infixl 75 _◂_
 abbrev pub opening : (A B : Builder) → ℕ → A .State → B .State → Node A B
 opening A B kind a b = node kind (A .frame a) (B .frame b)
 
--- what makes B stand for A
-pub record Sim (A B : Builder) (Skip May : ℕ → Type 0) : Type 1 where
-  pub R : World A B → A .State → B .State → Type 0
-  -- a mark made now may be used from now on; to forget marks is always right
-  pub marks : {n : Node A B} {live : List (A .Mark × B .Mark)} {w : World A B} {a : A .State} {b : B .State} → R (n ◂ live ∷ w) a b → R (n ◂ ((A .mark a, B .mark b) ∷ live) ∷ w) a b
-  pub forgets : {n : Node A B} {less live : List (A .Mark × B .Mark)} {w : World A B} {a : A .State} {b : B .State} → Sub less live → R (n ◂ live ∷ w) a b → R (n ◂ less ∷ w) a b
-  pub leafs :
-      (place : ℕ) (l : Leaf) {top : Level A B} {w : World A B} {a : A .State} {b : B .State}
-      → R (top ∷ w) a b
-      → OutRel Skip May (R (top ∷ w)) (A .leaf place l a) (B .leaf place l b)
+-- ---- what makes B stand for A: a relation over a world, and what each operation keeps of it
+
+module _ (A B : Builder) (Skip May : ℕ → Type 0) (R : World A B → A .State → B .State → Type 0) where
+  -- a mark made now may be used from now on
+  abbrev pub MarkKeeps : Type 0
+  MarkKeeps = (n : Node A B) (live : Marked A B) (w : World A B) (a : A .State) (b : B .State)
+      → R (n ◂ live ∷ w) a b
+      → R (n ◂ ((A .mark a, B .mark b) ∷ live) ∷ w) a b
+
+  -- to forget marks is always right
+  abbrev pub ForgetKeeps : Type 0
+  ForgetKeeps = (n : Node A B) (less live : Marked A B) (w : World A B) (a : A .State) (b : B .State)
+      → Sub less live
+      → R (n ◂ live ∷ w) a b
+      → R (n ◂ less ∷ w) a b
+
+  abbrev pub LeafKeeps : Type 0
+  LeafKeeps = (place : ℕ) (l : Leaf) (top : Level A B) (w : World A B)
+      → Keeps Skip May (R (top ∷ w)) (R (top ∷ w)) (A .leaf place l) (B .leaf place l)
+
   -- marks that were made before a node was opened may be used in it
-  pub starts :
-      (place kind : ℕ) {w : World A B} {a : A .State} {b : B .State}
+  abbrev pub StartKeeps : Type 0
+  StartKeeps = (place kind : ℕ) (w : World A B) (a : A .State) (b : B .State)
       → R w a b
       → OutRel Skip May (R (opening A B kind a b ◂ innermost w ∷ w)) (A .start place kind a) (B .start place kind b)
+
   -- a node is opened at the newest mark: that one and those before it may still be used, inside and outside
-  pub startAts :
-      (place kind : ℕ) {n : Node A B} {x : A .Mark × B .Mark} {older : List (A .Mark × B .Mark)} {w : World A B} {a : A .State} {b : B .State}
+  abbrev pub StartAtKeeps : Type 0
+  StartAtKeeps = (place kind : ℕ) (n : Node A B) (x : BothMark A B) (older : Marked A B) (w : World A B) (a : A .State) (b : B .State)
       → R (n ◂ (x ∷ older) ∷ w) a b
-      → OutRel Skip May (R (opening A B kind a b ◂ (x ∷ older) ∷ n ◂ (x ∷ older) ∷ w)) (A .startAt place kind (x .0) a) (B .startAt place kind (x .1) b)
+      → OutRel Skip May (R (opening A B kind a b ◂ (x ∷ older) ∷ n ◂ (x ∷ older) ∷ w))
+      (A .startAt place kind (x .0) a)
+      (B .startAt place kind (x .1) b)
+
   -- a node's end takes its kind and its frames, and leaves the world as it was before it
-  pub finishes :
-      (place : ℕ) {n : Node A B} {live : List (A .Mark × B .Mark)} {top : Level A B} {w : World A B} {a : A .State} {b : B .State}
-      → R (n ◂ live ∷ top ∷ w) a b
-      → OutRel Skip May (R (top ∷ w)) (A .finish place (n .kind) (n .left) a) (B .finish place (n .kind) (n .right) b)
+  abbrev pub FinishKeeps : Type 0
+  FinishKeeps = (place : ℕ) (n : Node A B) (live : Marked A B) (top : Level A B) (w : World A B)
+      → Keeps Skip May (R (n ◂ live ∷ top ∷ w)) (R (top ∷ w)) (A .finish place (n .kind) (n .left)) (B .finish place (n .kind) (n .right))
+
   -- and the root's end is the end
+  abbrev pub EndGives : (A .State → B .State → Type 0) → Type 0
+  EndGives Whole = (place : ℕ) (f : A .Frame) (g : B .Frame) (live : Marked A B)
+      → Keeps Skip May (R (node ScopeRoot f g ◂ live ∷ [])) Whole (A .finish place ScopeRoot f) (B .finish place ScopeRoot g)
+
+  abbrev pub DropKeeps : Type 0
+  DropKeeps = (token reason : ℕ) (w : World A B) (a : A .State) (b : B .State) → R w a b → R w (A .drop token reason a) (B .drop token reason b)
+
+pub record Sim (A B : Builder) (Skip May : ℕ → Type 0) : Type 1 where
+  pub R : World A B → A .State → B .State → Type 0
+  pub marks : MarkKeeps A B Skip May R
+  pub forgets : ForgetKeeps A B Skip May R
+  pub leafs : LeafKeeps A B Skip May R
+  pub starts : StartKeeps A B Skip May R
+  pub startAts : StartAtKeeps A B Skip May R
+  pub finishes : FinishKeeps A B Skip May R
   pub Whole : A .State → B .State → Type 0
-  pub ends :
-      (place : ℕ) {f : A .Frame} {g : B .Frame} {live : List (A .Mark × B .Mark)} {a : A .State} {b : B .State}
-      → R (node ScopeRoot f g ◂ live ∷ []) a b
-      → OutRel Skip May Whole (A .finish place ScopeRoot f a) (B .finish place ScopeRoot g b)
-  pub drops : (token reason : ℕ) {w : World A B} {a : A .State} {b : B .State} → R w a b → R w (A .drop token reason a) (B .drop token reason b)
+  pub ends : EndGives A B Skip May R Whole
+  pub drops : DropKeeps A B Skip May R
   -- what is dropped does not touch a node
   pub frame-left : (token reason : ℕ) (a : A .State) → A .frame (A .drop token reason a) ≡ A .frame a
   pub frame-right : (token reason : ℕ) (b : B .State) → B .frame (B .drop token reason b) ≡ B .frame b

@@ -1,5 +1,6 @@
--- No loop ends for want of turns: with as many turns as is left to read, or with more, each loop of the rules comes to the same. Each turn leaves less to read, and
--- where nothing is left no turn is taken. For any builder, at any position whose cursor stands before a token or in the middle of a Word. Assumes nothing.
+-- No loop ends for want of turns: with as many turns as is left to read, or with more, each loop of the rules comes to the same. Each turn leaves
+-- less to read, and where nothing is left no turn is taken. For any builder, at any position whose cursor stands before a token or in the middle of a
+-- Word. Assumes nothing.
 use Prim.Native.Nat.{ℕ, zero, suc, _+_, _-_, _≤_}
 use mathlib.Core.Path.{_≡_, refl}
 use mathlib.Core.Bool.{Bool, true, false, cond}
@@ -18,13 +19,14 @@ use Rattle.rules.specs.Reading.{lastAfter, items, chosen, arguments, con
 use Rattle.rules.specs.Routines.{next, turns, eat, eatWhile, eatBodyOfIfs, holdTrivia}
 use Rattle.rules.specs.Tables.{tokenCount}
 use Rattle.rules.specs.Token
-use Rattle.rules.proofs.Handed.{IfWent, goes, stopped, Handed, seen, Free, Holding, Held, nothing-held, some-held, eat-if, hold-held}
-use Rattle.rules.proofs.HandedItems.{Fits, an-end, trivia, an-argument, Reads, stands-of, argument-if, choice-fits, contentAt-reads}
-use Rattle.rules.proofs.Progress.{at-end, other-whole}
+use Rattle.rules.proofs.Goes.{Goes, goes, stopped}
+use Rattle.rules.proofs.Handed.{Handed, Anything, knowing, next-on, Free, Held, nothing-held, eat-if, hold-held}
+use Rattle.rules.proofs.HandedItems.{unless, Fits, an-end, trivia, an-argument, Reads, argument-if, choice-fits, contentAt-reads}
+use Rattle.rules.proofs.Progress.{at-end}
 use Rattle.rules.proofs.Reached.{Sound, Standing}
 
 -- what follows an outcome matters only where it went on
-bind-same : {X Y : Type 0} {Q : X → Type 0} {o : Out X} (f g : X → Out Y) → IfWent Q o → ((x : X) → Q x → f x ≡ g x) → bind o f ≡ bind o g
+bind-same : {X Y : Type 0} {Q : X → Type 0} {o : Out X} (f g : X → Out Y) → Goes Q o → ((x : X) → Q x → f x ≡ g x) → bind o f ≡ bind o g
 bind-same f g (goes {x} q) same = same x q
 bind-same f g (stopped number place) same = refl
 
@@ -36,16 +38,16 @@ cond-same false met missed = missed refl
 anything : (B : Builder) (source : Source) → Handed B source
 anything B source =
     record {
-      Read = λ b c. Unit {0};
-      starts = λ place kind {b} {c} h. any (B .start place kind b);
-      startAts = λ place kind m {b} {c} h. any (B .startAt place kind m b);
-      finishes = λ place kind f {b} {c} h. any (B .finish place kind f b);
-      rests = λ place kind c {b} h there stands. any _;
-      parts = λ place kind size c {b} h there word some less. any _;
-      drops = λ reason c h there whole. tt;
+      Read = λ c b. Unit {0};
+      starts = λ place kind c b h. any (B .start place kind b);
+      startAts = λ place kind m c b h. any (B .startAt place kind m b);
+      finishes = λ place kind f c b h. any (B .finish place kind f b);
+      rests = λ place kind c there stands b h. any _;
+      parts = λ place kind size c there word some less b h. any _;
+      drops = λ reason c there whole b h. tt;
     }
   where
-    any : {X : Type 0} (o : Out X) → IfWent (λ (x : X). Unit {0}) o
+    any : {X : Type 0} (o : Out X) → Goes (λ (x : X). Unit {0}) o
     any (went x) = goes tt
     any (refused number place) = stopped number place
 
@@ -56,64 +58,81 @@ module _ {B : Builder} {source : Source} (K : Handed B source) (sound : Sound so
   over c stands all = rw (le-ltb (c .token) (tokenCount (source .tokens)) (at-end sound c stands all))
 
   no-next : (test : ℕ → Bool) (p : At B) → Free K sound 0 p → next B source test p ≡ false
-  no-next test p on = rw (over (p .lexer) (on .stands) (on .bound))
+  no-next test p h = rw (over (p .lexer) (h .stands) (h .bound))
 
-  bound-of : {n : ℕ} {c : Cursor} {h : ℕ} {b : B .State} → Holding K sound n c h b → left (source .tokens) c ≤ n
-  bound-of (nothing-held e on) = on .bound
-  bound-of (some-held less whole read stands bound) = bound
+  -- a token that passes a test is eaten
+  eats : {n : ℕ} (test : ℕ → Bool) (p : At B) → Free K sound (suc n) p → next B source test p ≡ true → Goes (Free K sound n) (eat B source p)
+  eats test p h e = eat-if K sound p (next-on K sound test p e h)
 
   eatWhile-more : (test : ℕ → Bool) (n m : ℕ) (p : At B) → n ≤ m → Free K sound n p → eatWhile B source test n p ≡ eatWhile B source test m p
   unfolding eatWhile
-  eatWhile-more test zero zero p more on = refl
-  eatWhile-more test zero (suc m) p more on = rw (no-next test p on)
-  eatWhile-more test (suc n) zero p more on = absurd (omega arith)
-  eatWhile-more test (suc n) (suc m) p more on =
-      cond-same (next B source test p) (λ e. bind-same _ _ (eat-if K sound p on (seen source test (p .lexer) e .0)) (λ q on. eatWhile-more test n m q (omega arith) on)) (λ _. refl)
+  eatWhile-more test zero zero p more h = refl
+  eatWhile-more test zero (suc m) p more h = rw (no-next test p h)
+  eatWhile-more test (suc n) zero p more h = absurd (omega arith)
+  eatWhile-more test (suc n) (suc m) p more h =
+      cond-same (next B source test p) (λ e. bind-same _ _ (eats test p h e) (λ q h. eatWhile-more test n m q (omega arith) h)) (λ _. refl)
 
   eatBodyOfIfs-more : (n m nested : ℕ) (p : At B) → n ≤ m → Free K sound n p → eatBodyOfIfs B source n nested p ≡ eatBodyOfIfs B source m nested p
   unfolding eatBodyOfIfs
-  eatBodyOfIfs-more zero zero nested p more on = refl
-  eatBodyOfIfs-more zero (suc m) nested p more on = rw (no-next (eqb Token.EndIf) p on, no-next isIf p on, no-next (λ kind. true) p on)
-  eatBodyOfIfs-more (suc n) zero nested p more on = absurd (omega arith)
-  eatBodyOfIfs-more (suc n) (suc m) nested p more on =
-      let eats : (test : ℕ → Bool) → next B source test p ≡ true → IfWent (Free K sound n) (eat B source p) = λ test e. eat-if K sound p on (seen source test (p .lexer) e .0) in
+  eatBodyOfIfs-more zero zero nested p more h = refl
+  eatBodyOfIfs-more zero (suc m) nested p more h = rw (no-next (eqb Token.EndIf) p h, no-next isIf p h, no-next (λ kind. true) p h)
+  eatBodyOfIfs-more (suc n) zero nested p more h = absurd (omega arith)
+  eatBodyOfIfs-more (suc n) (suc m) nested p more h =
+      let rest : (nested : ℕ) (q : At B) → Free K sound n q → eatBodyOfIfs B source n nested q ≡ eatBodyOfIfs B source m nested q =
+      λ nested q h. eatBodyOfIfs-more n m nested q (omega arith) h in
       cond-same (next B source (eqb Token.EndIf) p)
-      (λ e. cond-same (eqb nested 0) (λ _. refl) (λ _. bind-same _ _ (eats (eqb Token.EndIf) e) (λ q on. eatBodyOfIfs-more n m (nested - 1) q (omega arith) on)))
-      (λ _. cond-same (next B source isIf p) (λ e. bind-same _ _ (eats isIf e) (λ q on. eatBodyOfIfs-more n m (nested + 1) q (omega arith) on))
-      (λ _. cond-same (next B source (λ kind. true) p) (λ e. bind-same _ _ (eats (λ kind. true) e) (λ q on. eatBodyOfIfs-more n m nested q (omega arith) on)) (λ _. refl)))
+      (λ e. cond-same (eqb nested 0) (λ _. refl) (λ _. bind-same _ _ (eats (eqb Token.EndIf) p h e) (rest (nested - 1))))
+      (λ _. cond-same (next B source isIf p) (λ e. bind-same _ _ (eats isIf p h e) (rest (nested + 1)))
+      (λ _. cond-same (next B source (λ kind. true) p) (λ e. bind-same _ _ (eats (λ kind. true) p h e) (rest nested)) (λ _. refl)))
 
   module _ {i : Bool → Rule B} (inner : Reads K sound i) where
+    -- an item is read, where one is next
+    reads : {n : ℕ} (test : ℕ → Bool) (p : At B) → Free K sound (suc n) p → next B source test p ≡ true → Goes (Free K sound n) (i false p)
+    reads {n} test p h e =
+        let here = next-on K sound test p e h in
+        inner .some false n p (knowing source h (record { there = here .such .there; is = tt }))
+
     items-more : (stop : ℕ → Bool) (n m : ℕ) (p : At B) → n ≤ m → Free K sound n p → items B source i stop n p ≡ items B source i stop m p
     unfolding items
-    items-more stop zero zero p more on = refl
-    items-more stop zero (suc m) p more on = rw (no-next (λ kind. cond (stop kind) false true) p on)
-    items-more stop (suc n) zero p more on = absurd (omega arith)
-    items-more stop (suc n) (suc m) p more on =
-        cond-same (next B source (λ kind. cond (stop kind) false true) p)
-        (λ e. bind-same _ _ (inner .some false p on (seen source (λ kind. cond (stop kind) false true) (p .lexer) e .0)) (λ q on. items-more stop n m (lastAfter B source p q) (omega arith) on))
+    items-more stop zero zero p more h = refl
+    items-more stop zero (suc m) p more h = rw (no-next (unless stop) p h)
+    items-more stop (suc n) zero p more h = absurd (omega arith)
+    items-more stop (suc n) (suc m) p more h =
+        cond-same (next B source (unless stop) p)
+        (λ e. bind-same _ _ (reads (unless stop) p h e) (λ q h. items-more stop n m (lastAfter B source p q) (omega arith) h))
         (λ _. refl)
 
-    module _ (n m : ℕ) (same : (matcher : Matcher) (q : At B) → Held K sound n q → arguments B source i n matcher q ≡ arguments B source i m matcher q) where
-      chosen-same : (choice : Choice) (matcher : Matcher) (p : At B) → Held K sound (suc n) p → Fits source (p .lexer) choice
-          → chosen B source i (arguments B source i n) choice matcher p ≡ chosen B source i (arguments B source i m) choice matcher p
-      chosen-same ends matcher p held an-end = refl
-      chosen-same holds matcher p held (trivia there other) = same matcher (holdTrivia B source p) (hold-held K sound p held there (other-whole sound (p .lexer) (stands-of K sound held) other))
-      chosen-same (takes what after) matcher p held (an-argument there suits) = bind-same _ _ (argument-if K sound inner what p held there suits) (λ q held. same after q held)
+    -- so many turns of the arguments are the same as so many others
+    abbrev SameTurns : ℕ → ℕ → Type 0
+    SameTurns n m = (matcher : Matcher) (q : At B) → Held K sound Anything n q → arguments B source i n matcher q ≡ arguments B source i m matcher q
 
-    arguments-more : (n m : ℕ) (matcher : Matcher) (p : At B) → n ≤ m → Held K sound n p → arguments B source i n matcher p ≡ arguments B source i m matcher p
+    chosen-same : (n m : ℕ) (choice : Choice) (matcher : Matcher) (p : At B)
+        → SameTurns n m
+        → Held K sound Anything (suc n) p
+        → Fits source (p .lexer) choice
+        → chosen B source i (arguments B source i n) choice matcher p ≡ chosen B source i (arguments B source i m) choice matcher p
+    chosen-same n m ends matcher p same h an-end = refl
+    chosen-same n m holds matcher p same h (trivia follows) = same matcher (holdTrivia B source p) (hold-held K sound p (knowing source h follows))
+    chosen-same n m (takes what after) matcher p same h (an-argument follows) =
+        bind-same _ _ (argument-if K sound inner what p (knowing source h follows)) (same after)
+
+    arguments-more : (n m : ℕ) → n ≤ m → SameTurns n m
     unfolding arguments peek
-    arguments-more zero zero matcher p more held = refl
-    arguments-more zero (suc m) matcher p more held = rw (le-ltb (p .lexer .token) (tokenCount (source .tokens)) (at-end sound (p .lexer) (stands-of K sound held) (bound-of held)))
-    arguments-more (suc n) zero matcher p more held = absurd (omega arith)
-    arguments-more (suc n) (suc m) matcher p more held =
-        chosen-same n m (λ matcher q held. arguments-more n m matcher q (omega arith) held) _ matcher p held (choice-fits K sound inner (ltb (p .lexer .token) (tokenCount (source .tokens))) matcher p refl)
+    arguments-more zero zero more matcher p h = refl
+    arguments-more zero (suc m) more matcher p h =
+        rw (le-ltb (p .lexer .token) (tokenCount (source .tokens)) (at-end sound (p .lexer) (h .stands) (h .bound)))
+    arguments-more (suc n) zero more matcher p h = absurd (omega arith)
+    arguments-more (suc n) (suc m) more matcher p h =
+        let fits = choice-fits K sound inner (ltb (p .lexer .token) (tokenCount (source .tokens))) matcher p refl in
+        chosen-same n m _ matcher p (arguments-more n m (omega arith)) h fits
 
 -- ---- the loops, with the turns that the rules give them
 
-module _ (B : Builder) (source : Source) (sound : Sound source) (p : At B) (stands : Standing source (p .lexer)) (n : ℕ) (more : turns B source p ≤ n) where
+module _ (B : Builder) (source : Source) (sound : Sound source) (p : At B) (stands : Standing source (p .lexer)) (n : ℕ)
+    (more : turns B source p ≤ n) where
   free : Free (anything B source) sound (turns B source p) p
   unfolding anything
-  free = record { read = tt; stands = stands; bound = le-refl _ }
+  free = record { read = tt; stands = stands; bound = le-refl _; such = tt }
 
   pub eatWhile-turns : (test : ℕ → Bool) → eatWhile B source test (turns B source p) p ≡ eatWhile B source test n p
   eatWhile-turns test = eatWhile-more (anything B source) sound test (turns B source p) n p more free
@@ -123,9 +142,15 @@ module _ (B : Builder) (source : Source) (sound : Sound source) (p : At B) (stan
 
   -- at each level of the knot
   module _ (d : ℕ) where
-    pub items-turns : (stop : ℕ → Bool) → items B source (contentAt B source d) stop (turns B source p) p ≡ items B source (contentAt B source d) stop n p
+    pub items-turns : (stop : ℕ → Bool)
+        → items B source (contentAt B source d) stop (turns B source p) p ≡ items B source (contentAt B source d) stop n p
     items-turns stop = items-more (anything B source) sound (contentAt-reads (anything B source) sound d) stop (turns B source p) n p more free
 
     -- where arguments begin nothing is held
-    pub arguments-turns : (m : Matcher) → p .held ≡ place B p → arguments B source (contentAt B source d) (turns B source p) m p ≡ arguments B source (contentAt B source d) n m p
-    arguments-turns m none-held = arguments-more (anything B source) sound (contentAt-reads (anything B source) sound d) (turns B source p) n m p more (nothing-held none-held free)
+    pub arguments-turns : (m : Matcher)
+        → p .held ≡ place B p
+        → arguments B source (contentAt B source d) (turns B source p) m p ≡ arguments B source (contentAt B source d) n m p
+    unfolding anything
+    arguments-turns m none-held =
+        arguments-more (anything B source) sound (contentAt-reads (anything B source) sound d) (turns B source p) n more m p
+        (record { read = nothing-held none-held tt; stands = stands; bound = le-refl _; such = tt })

@@ -74,7 +74,12 @@ shapeRight states s =
     && ((not (among (s .form) (formLeft1 ∷ formInfixGreedy ∷ [])) || eqb (s .class) classCommand) && valueRight states (s .form) (s .value)))
 
 abbrev pub shapeRow : List ℕ → ℕ → Shape
-shapeRow shapes i = record { class = cell Limits.shapeWidth shapes i 0; form = cell Limits.shapeWidth shapes i 1; value = cell Limits.shapeWidth shapes i 2 }
+shapeRow shapes i =
+    record {
+      class = cell Limits.shapeWidth shapes i 0;
+      form = cell Limits.shapeWidth shapes i 1;
+      value = cell Limits.shapeWidth shapes i 2;
+    }
 
 -- "or a next state over the state count"
 unfoldable pub stateRight : List ℕ → ℕ → ℕ → Bool

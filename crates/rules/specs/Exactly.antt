@@ -1,7 +1,7 @@
--- What is dropped, said of the tree with its places and the kinds of the tokens, in the words of the demand: "Dropped are exactly the blanks, breaks and
--- comments that a non-greedy command or a \begin itself passed before an argument it then accepted (those an inner command passed and left behind its node
--- stay leaves), the opener of an \iffalse or \iftypst body that is read as one (what stands inside a skipped body opens and closes none), and that body's
--- closing \fi if it has one."
+-- What is dropped, said of the tree with its places and the kinds of the tokens, in the words of the demand: "Dropped are exactly the blanks, breaks
+-- and comments that a non-greedy command or a \begin itself passed before an argument it then accepted (those an inner command passed and left behind
+-- its node stay leaves), the opener of an \iffalse or \iftypst body that is read as one (what stands inside a skipped body opens and closes none),
+-- and that body's closing \fi if it has one."
 use Prim.Native.Nat.{ℕ, zero, suc, _+_, _*_, _-_}
 use mathlib.Core.Path.{_≡_}
 use mathlib.Core.Bool.{Bool, true, not, cond, _&&_, _||_}
@@ -60,13 +60,15 @@ module _ (source : Source) where
 
   unfoldable pub isBody : ℕ → ℕ → Bool
   isBody kind from =
-      (eqb kind SyntaxKind.ItemBlockComment && eqb (kindOf from) Token.IfFalse) || (eqb kind SyntaxKind.ItemTypstCode && eqb (kindOf from) Token.IfTypst)
+      (eqb kind SyntaxKind.ItemBlockComment && eqb (kindOf from) Token.IfFalse)
+      || (eqb kind SyntaxKind.ItemTypstCode && eqb (kindOf from) Token.IfTypst)
 
   -- "33 IfFalse, 34 IfTypst, 35 any other If": "Counting only `\iffalse` in a nested body" is a slip
   unfoldable pub opensIf : ℕ → Bool
   opensIf token = among (kindOf token) (Token.IfFalse ∷ Token.IfTypst ∷ Token.If ∷ [])
 
-  -- "that body's closing \fi": among so many tokens from one on, the first \fi that closes no \if of those that stand inside, of which so many are still unclosed
+  -- "that body's closing \fi": among so many tokens from one on, the first \fi that closes no \if of those that stand inside, of which so many are
+  -- still unclosed
   unfoldable pub closing : ℕ → ℕ → ℕ → Option ℕ
   closing zero unclosed token = none
   closing (suc n) unclosed token =
@@ -99,7 +101,8 @@ module _ (source : Source) where
     -- of children of a command or a \begin that has read up to `behind`
     pub droppedPassing : ℕ → ℕ → Places → List ℕ
     droppedPassing behind leaves none = []
-    droppedPassing behind leaves (more t rest) = passedBefore behind t leaves ++ (droppedIn leaves t ++ droppedPassing (endOf t) (leaves + leavesIn t) rest)
+    droppedPassing behind leaves (more t rest) =
+        passedBefore behind t leaves ++ (droppedIn leaves t ++ droppedPassing (endOf t) (leaves + leavesIn t) rest)
 
   -- the dropped rows of a run with this tree
   abbrev pub dropped : Placed → List ℕ

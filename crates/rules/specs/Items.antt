@@ -104,9 +104,16 @@ nameOnly s = eqb (s .form) formNone || (eqb (s .form) formFixed && eqb (s .value
 abbrev pub attachableCommand : Shape → Bool
 attachableCommand s = not (among (s .form) (formLeft1 ∷ formInfixGreedy ∷ formGreedy ∷ []))
 
--- "an item whose reading says attachable": `content`'s answer, which is fixed by the kind that the item begins with and, if it is a command, its shape
+-- the kinds of tokens that are no base of a script: `&`, `\\`, blanks, breaks and comments, `#`, `*`, `@` and errors
+abbrev pub noBase : List ℕ
+noBase =
+    Token.Ampersand ∷ Token.NewLine ∷ Token.LineBreak ∷ Token.Whitespace ∷ Token.LineComment
+    ∷ Token.Hash ∷ Token.Asterisk ∷ Token.AtSign ∷ Token.Error ∷ []
+
+-- "an item whose reading says attachable": `content`'s answer, which is fixed by the kind that the item begins with and, if it is a command, by its
+-- shape
 abbrev pub attachableItem : Item → ℕ → Shape → Bool
-attachableItem plain kind s = not (among kind (Token.Ampersand ∷ Token.NewLine ∷ Token.LineBreak ∷ Token.Whitespace ∷ Token.LineComment ∷ Token.Hash ∷ Token.Asterisk ∷ Token.AtSign ∷ Token.Error ∷ []))
+attachableItem plain kind s = not (among kind noBase)
 attachableItem error kind s = true
 attachableItem word kind s = true
 attachableItem comma kind s = true

@@ -21,8 +21,11 @@ pub mod Tree
 pub mod Questions
 pub mod Rowan
 pub mod PutBack
+pub mod Computed
+pub mod Notation
 pub mod Placed
 pub mod Exactly
+pub mod QuestionCases
 pub mod DroppedCases
 pub mod Sheet
 pub mod Listing

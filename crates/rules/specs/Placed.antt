@@ -1,23 +1,30 @@
 -- Trees that say at which tokens they stand, and the builder that makes them: rowan's, without limits, which notes the place at which it is asked.
 -- "Place: the first token not wholly read, the token count at the end."
 use Prim.Native.Nat.{ℕ, _+_}
-use mathlib.Core.Path.{_≡_}
+use mathlib.Core.Path.{_≡_, refl}
 use mathlib.Core.Bool.{cond}
 use mathlib.Core.List.{List, [], _∷_, _++_}
 use lib.Dec.{ltb}
 use lib.ListN.{length, take, drop}
 use Rattle.rules.specs.Builder.{Builder, Leaf}
+use Rattle.rules.specs.Checks.{sourceOf}
+use Rattle.rules.specs.Computed.{the-run}
 use Rattle.rules.specs.Flat.{droppedRow}
+use Rattle.rules.specs.Notation.{_of_, _of_shaped_, textOf, tokensOf, fixed}
 use Rattle.rules.specs.Outcome.{Out, went, refused, markBeforeNode}
 use Rattle.rules.specs.Position.{Pos, Source}
 use Rattle.rules.specs.Reading.{parse}
 use Rattle.rules.specs.Rowan.{markPastLast}
+use Rattle.rules.specs.SyntaxKind
+use Rattle.rules.specs.Token.{Whitespace, Word, Generic}
 use Rattle.rules.specs.Tree.{Tree, Forest}
 use Rattle.rules.specs.Tree as tree
 
 mutual
-  -- a leaf as it was handed over, with its token; or a node with its kind, the place at which it was begun, the place at which it was ended, and its children.
-  --     \f 1   tokens 0 to 2:  node Cmd 0 3 (leaf of 0, node Arg 2 3 (leaf of 2))
+  -- a leaf as it was handed over, with its token; or a node with its kind, `from`, `to` and its children. `from` is the place at which it was begun,
+  -- and `to` the place at which it was ended: the first token that was not wholly read then. Held trivia counts as read, so a command's `to` lies
+  -- behind the blanks that it passed and left, which follow its node as leaves.
+  --     \f 1   and a blank behind it, tokens 0 to 3:   node Cmd 0 4 (leaf of 0, node Arg 2 3 (leaf of 2)), leaf of 3
   pub data Placed : Type 0 where
     leaf : Leaf → Placed
     node : ℕ → ℕ → ℕ → Places → Placed
@@ -75,7 +82,12 @@ leafed l s = record { parents = s .parents; children = s .children ++ (leaf l �
 
 unfoldable pub opened : ℕ → ℕ → ℕ → Placing → Placing
 opened place kind first s =
-    record { parents = record { kind = kind; first = first; from = place } ∷ s .parents; children = s .children; leaves = s .leaves; dropped = s .dropped }
+    record {
+      parents = record { kind = kind; first = first; from = place } ∷ s .parents;
+      children = s .children;
+      leaves = s .leaves;
+      dropped = s .dropped;
+    }
 
 -- what was begun at a mark is begun at the place of the wrap: a command's node always begins at its name
 unfoldable pub openedAt : ℕ → ℕ → ℕ → Placing → Out Placing
@@ -95,7 +107,13 @@ closed place s =
 
 -- "Dropped row: token index, reason (1 trivia, 2 opener, 3 closer), leaves written before it."
 unfoldable pub noted : ℕ → ℕ → Placing → Placing
-noted token reason s = record { parents = s .parents; children = s .children; leaves = s .leaves; dropped = s .dropped ++ droppedRow token reason (s .leaves) }
+noted token reason s =
+    record {
+      parents = s .parents;
+      children = s .children;
+      leaves = s .leaves;
+      dropped = s .dropped ++ droppedRow token reason (s .leaves);
+    }
 
 abbrev pub placing : Builder
 placing =
@@ -121,3 +139,27 @@ pub record TreeOf (source : Source) (t : Placed) : Type 0 where
   pub end : Pos Placing ℕ
   pub run : parse placing source nothing ≡ went end
   pub is : end .built .children ≡ t ∷ []
+
+-- ---- an example
+
+-- `\f 1 `, `\f` fixed 2: the node of \f was ended at place 4, behind the second blank, which stands behind the node
+abbrev pub blankBehind : Source
+blankBehind =
+    let parts = Generic of "\\f" shaped 1 ∷ Whitespace of " " ∷ Word of "1" ∷ Whitespace of " " ∷ [] in
+    sourceOf (record { text = textOf parts; tokens = tokensOf parts; shapes = fixed 2; states = [] })
+
+abbrev pub blankBehindTree : Placed
+blankBehindTree =
+    node SyntaxKind.ScopeRoot 0 4
+    (places
+    (node SyntaxKind.ItemCmd 0 4
+    (places
+    (leaf (record { token = 0; kind = SyntaxKind.ClauseCommandName; start = 0; size = 2 })
+    ∷ node SyntaxKind.ClauseArgument 2 3 (places (leaf (record { token = 2; kind = SyntaxKind.TokenWord; start = 3; size = 1 }) ∷ []))
+    ∷ []))
+    ∷ leaf (record { token = 3; kind = SyntaxKind.TokenWhiteSpace; start = 4; size = 1 })
+    ∷ []))
+
+pub example : TreeOf blankBehind blankBehindTree
+unfolding the-run leafed opened openedAt closed noted
+example = record { end = _; run = refl; is = refl }

@@ -1,4 +1,5 @@
--- Where a run of the rules stands: what is read, which tokens are held, the list that is read, and what was built. And the steps that a rule is made of.
+-- Where a run of the rules stands: what is read, which tokens are held, the list that is read, and what was built. And the steps that a rule is made
+-- of.
 use Prim.Native.Nat.{ℕ}
 use mathlib.Core.Bool.{Bool, false}
 use mathlib.Core.List.{List, [], _∷_}
@@ -30,7 +31,8 @@ pub record ListState (Mark : Type 0) : Type 0 where
 
 pub record Pos (State Mark : Type 0) : Type 0 where
   pub lexer : Cursor
-  -- "Trivia is held": the tokens from this one up to the next to be read. What it says counts only while the arguments of a command or a \begin are read
+  -- "Trivia is held": the tokens from this one up to the next to be read. What it says counts only while the arguments of a command or a \begin are
+  -- read
   pub held : ℕ
   pub list : ListState Mark
   pub built : State

@@ -1,5 +1,6 @@
--- Putting back: what a reader of a stored tree can do with its rows, the dropped rows, the text and the token rows, knowing nothing of how they were read.
--- "In every accepted run, put the dropped texts back among the leaf texts where the dropped list says: the token texts return, joined in order."
+-- Putting back: what a reader of a stored tree can do with its rows, the dropped rows, the text and the token rows, knowing nothing of how they were
+-- read. "In every accepted run, put the dropped texts back among the leaf texts where the dropped list says: the token texts return, joined in
+-- order."
 use Prim.Native.Nat.{ℕ, zero, suc, _+_, _≤_, _<_}
 use mathlib.Core.Path.{_≡_}
 use mathlib.Core.Bool.{cond}
@@ -59,7 +60,8 @@ abbrev pub droppedAfter : ℕ → List (List ℕ × List ℕ) → List ℕ
 droppedAfter k [] = []
 droppedAfter k (d ∷ ds) = cond (eqb (getD (d .0) 2 0) k) (d .1) [] ++ droppedAfter k ds
 
--- from the k-th leaf on: before each leaf's text those of the dropped rows whose count of leaves stands there, and likewise behind the last leaf's text
+-- from the k-th leaf on: before each leaf's text those of the dropped rows whose count of leaves stands there, and likewise behind the last leaf's
+-- text
 abbrev pub backFrom : ℕ → List (List ℕ) → List (List ℕ × List ℕ) → List ℕ
 backFrom k [] dropped = droppedAfter k dropped
 backFrom k (leaf ∷ more) dropped = droppedAfter k dropped ++ (leaf ++ backFrom (k + 1) more dropped)
@@ -90,7 +92,10 @@ pub data EachToken (tokens : List ℕ) : ℕ → ℕ → List (ℕ × ℕ) → L
   leaf : {i k : ℕ} {leaves : List (ℕ × ℕ)} {dropped : List (List ℕ)} → i < tokenCount tokens
       → EachToken tokens (i + 1) (k + 1) leaves dropped
       → EachToken tokens i k ((startAt tokens i, lengthAt tokens i) ∷ leaves) dropped
-  split : {i k : ℕ} {parts leaves : List (ℕ × ℕ)} {dropped : List (List ℕ)} → i < tokenCount tokens → kindAt tokens i ≡ Token.Word → Parts (startAt tokens i) (lengthAt tokens i) parts
+  split : {i k : ℕ} {parts leaves : List (ℕ × ℕ)} {dropped : List (List ℕ)}
+      → i < tokenCount tokens
+      → kindAt tokens i ≡ Token.Word
+      → Parts (startAt tokens i) (lengthAt tokens i) parts
       → EachToken tokens (i + 1) (k + length parts) leaves dropped
       → EachToken tokens i k (parts ++ leaves) dropped
   drops : {i k reason : ℕ} {leaves : List (ℕ × ℕ)} {dropped : List (List ℕ)} → i < tokenCount tokens

@@ -2,16 +2,15 @@
 -- They have an answer for any numbers in the place of rows.
 use Prim.Native.Nat.{ℕ, zero, suc, _+_, _-_, _/_}
 use mathlib.Core.Bool.{Bool, true, false, cond, _&&_, _||_}
-use mathlib.Core.List.{List, [], _∷_, _++_, map}
+use mathlib.Core.List.{List, [], _∷_}
 use mathlib.Core.Option.{Option, none, some}
-use mathlib.Core.Path.{_≡_, refl}
 use lib.Dec.{eqb, leb, ltb}
 use lib.ListN.{length}
-use Rattle.rules.specs.Flat.{tagStart, tagLeaf, tagFinish, leafRow, startRow, finishRow}
+use Rattle.rules.specs.Flat.{tagStart, tagLeaf, tagFinish}
 use Rattle.rules.specs.Limits
-use Rattle.rules.specs.SyntaxKind.{TokenWord, TokenDollar, TokenBeginMath, TokenEndMath, ItemText, ItemBlockComment, ItemFormula, ScopeRoot}
+use Rattle.rules.specs.SyntaxKind.{TokenDollar, TokenBeginMath, TokenEndMath, ItemFormula}
 use Rattle.rules.specs.Tables.{cell, part}
-use Rattle.rules.specs.Tree.{Tree, Forest, leaf, node, more, nodeOf, layout}
+use Rattle.rules.specs.Tree.{Tree, Forest, leaf, node, more}
 
 -- ---- rows
 -- "Tree row: tag (0 start, 1 leaf, 2 finish), kind, start, length". What is left over behind the last whole row is no row
@@ -42,8 +41,8 @@ rangeAt tree row = record { start = cell Limits.treeWidth tree row 2; size = cel
 unfoldable pub isLeaf : List ℕ → List ℕ → ℕ → Bool
 isLeaf text tree row = tagged tagLeaf tree row && leb (rangeAt tree row .start + rangeAt tree row .size) (length text)
 
--- "The text of a leaf row comes back as that part of the caller's text; for a leaf outside it, another row or no row, as the empty part at the text's start."
--- A leaf of no bytes inside the text has the empty part at its own start
+-- "The text of a leaf row comes back as that part of the caller's text; for a leaf outside it, another row or no row, as the empty part at the text's
+-- start." A leaf of no bytes inside the text has the empty part at its own start
 unfoldable pub leafRange : List ℕ → List ℕ → ℕ → Range
 leafRange text tree row = cond (isLeaf text tree row) (rangeAt tree row) (record { start = 0; size = 0 })
 
@@ -72,7 +71,8 @@ unfoldable pub formula : List ℕ → ℕ → Option ℕ
 formula tree row = cond (tagged tagStart tree row && eqb (kindAt tree row) ItemFormula) (matchingFinish tree row) none
 
 -- "First and last token descend into the first and last child; an empty node there gives none".
--- A child's row is the token where it is a leaf; where it has the tag `edge` the child is a node, and what it has inside is asked for; else there is no child
+-- A child's row is the token where it is a leaf; where it has the tag `edge` the child is a node, and what it has inside is asked for; else there is
+-- no child
 abbrev pub descend : ℕ → ℕ → ℕ → Option ℕ → Option ℕ
 descend edge tag at inside = cond (eqb tag tagLeaf) (some at) (cond (eqb tag edge) inside none)
 
@@ -203,240 +203,3 @@ unfoldable mutual
   pub lastOf : Forest → Option Leaf → Option Leaf
   lastOf Forest.none before = before
   lastOf (more child rest) before = lastOf rest (lastLeaf child)
-
--- ---- examples, as one table, and one theorem over it that antt computes
-pub record Example : Type 0 where
-  pub text : List ℕ
-  pub tree : List ℕ
-  pub row : ℕ
-  -- display, inline, valid
-  pub formula : Bool × Bool × Bool
-  -- a leaf inside the text, its text's start and size
-  pub leaf : Bool × ℕ × ℕ
-
-abbrev pub noFormula : Bool × Bool × Bool
-noFormula = (false, false, false)
-
-abbrev pub noLeaf : Bool × ℕ × ℕ
-noLeaf = (false, 0, 0)
-
--- a formula in row 1, with an `a` at 1 or at 2
-abbrev pub rootOf : List Tree → List ℕ
-rootOf children = layout (nodeOf ScopeRoot (nodeOf ItemFormula children ∷ []))
-
-abbrev pub word : ℕ → Tree
-word from = nodeOf ItemText (leaf TokenWord from 1 ∷ [])
-
-abbrev pub examples : List Example
-examples =
-    -- `$a$`
-    record {
-      text = 36 ∷ 97 ∷ 36 ∷ [];
-      tree = rootOf (leaf TokenDollar 0 1 ∷ word 1 ∷ leaf TokenDollar 2 1 ∷ []);
-      row = 1;
-      formula = (false, true, true);
-      leaf = noLeaf;
-    }
-    -- `$$a$$`
-    ∷ record {
-      text = 36 ∷ 36 ∷ 97 ∷ 36 ∷ 36 ∷ [];
-      tree = rootOf (leaf TokenDollar 0 2 ∷ word 2 ∷ leaf TokenDollar 3 2 ∷ []);
-      row = 1;
-      formula = (true, false, true);
-      leaf = noLeaf;
-    }
-    -- `\(a\)`
-    ∷ record {
-      text = 92 ∷ 40 ∷ 97 ∷ 92 ∷ 41 ∷ [];
-      tree = rootOf (leaf TokenBeginMath 0 2 ∷ word 2 ∷ leaf TokenEndMath 3 2 ∷ []);
-      row = 1;
-      formula = (false, true, true);
-      leaf = noLeaf;
-    }
-    -- `\[a\]`
-    ∷ record {
-      text = 92 ∷ 91 ∷ 97 ∷ 92 ∷ 93 ∷ [];
-      tree = rootOf (leaf TokenBeginMath 0 2 ∷ word 2 ∷ leaf TokenEndMath 3 2 ∷ []);
-      row = 1;
-      formula = (true, false, true);
-      leaf = noLeaf;
-    }
-    -- `\[a\)`
-    ∷ record {
-      text = 92 ∷ 91 ∷ 97 ∷ 92 ∷ 41 ∷ [];
-      tree = rootOf (leaf TokenBeginMath 0 2 ∷ word 2 ∷ leaf TokenEndMath 3 2 ∷ []);
-      row = 1;
-      formula = (true, false, false);
-      leaf = noLeaf;
-    }
-    -- `$`: "a lone `$` is valid"
-    ∷ record {
-      text = 36 ∷ [];
-      tree = rootOf (leaf TokenDollar 0 1 ∷ []);
-      row = 1;
-      formula = (false, true, true);
-      leaf = noLeaf;
-    }
-    -- `$a$$`
-    ∷ record {
-      text = 36 ∷ 97 ∷ 36 ∷ 36 ∷ [];
-      tree = rootOf (leaf TokenDollar 0 1 ∷ word 1 ∷ leaf TokenDollar 2 2 ∷ []);
-      row = 1;
-      formula = (false, true, false);
-      leaf = noLeaf;
-    }
-    -- `$\iffalse\fi`: the last child is an empty node
-    ∷ record {
-      text = 36 ∷ 92 ∷ 105 ∷ 102 ∷ 102 ∷ 97 ∷ 108 ∷ 115 ∷ 101 ∷ 92 ∷ 102 ∷ 105 ∷ [];
-      tree = rootOf (leaf TokenDollar 0 1 ∷ nodeOf ItemBlockComment [] ∷ []);
-      row = 1;
-      formula = (false, true, false);
-      leaf = noLeaf;
-    }
-    -- the first child is an empty node, though a `$` follows
-    ∷ record {
-      text = 36 ∷ [];
-      tree = rootOf (nodeOf ItemBlockComment [] ∷ leaf TokenDollar 0 1 ∷ []);
-      row = 1;
-      formula = noFormula;
-      leaf = noLeaf;
-    }
-    -- the tokens lie deeper
-    ∷ record {
-      text = 36 ∷ 36 ∷ [];
-      tree = rootOf (nodeOf ItemText (nodeOf ItemText (leaf TokenDollar 0 1 ∷ []) ∷ []) ∷ nodeOf ItemText (leaf TokenDollar 1 1 ∷ []) ∷ []);
-      row = 1;
-      formula = (false, true, true);
-      leaf = noLeaf;
-    }
-    -- a formula with nothing in it
-    ∷ record {
-      text = [];
-      tree = rootOf [];
-      row = 1;
-      formula = noFormula;
-      leaf = noLeaf;
-    }
-    -- a start of another kind; a leaf; a finish; no row
-    ∷ record {
-      text = 36 ∷ [];
-      tree = rootOf (leaf TokenDollar 0 1 ∷ []);
-      row = 0;
-      formula = noFormula;
-      leaf = noLeaf;
-    }
-    ∷ record {
-      text = 36 ∷ [];
-      tree = rootOf (leaf TokenDollar 0 1 ∷ []);
-      row = 2;
-      formula = noFormula;
-      leaf = (true, 0, 1);
-    }
-    ∷ record {
-      text = 36 ∷ [];
-      tree = rootOf (leaf TokenDollar 0 1 ∷ []);
-      row = 3;
-      formula = noFormula;
-      leaf = noLeaf;
-    }
-    ∷ record {
-      text = 36 ∷ [];
-      tree = rootOf (leaf TokenDollar 0 1 ∷ []);
-      row = 5;
-      formula = noFormula;
-      leaf = noLeaf;
-    }
-    -- a finish of another kind matches
-    ∷ record {
-      text = 36 ∷ [];
-      tree = startRow ItemFormula ++ (leafRow TokenDollar 0 1 ++ finishRow ScopeRoot);
-      row = 0;
-      formula = (false, true, true);
-      leaf = noLeaf;
-    }
-    -- no finish matches; three numbers of one are no row
-    ∷ record {
-      text = 36 ∷ [];
-      tree = startRow ItemFormula ++ (leafRow TokenDollar 0 1 ++ (startRow ItemText ++ finishRow ItemText));
-      row = 0;
-      formula = noFormula;
-      leaf = noLeaf;
-    }
-    ∷ record {
-      text = 36 ∷ [];
-      tree = startRow ItemFormula ++ (leafRow TokenDollar 0 1 ++ (tagFinish ∷ ItemFormula ∷ 0 ∷ []));
-      row = 0;
-      formula = noFormula;
-      leaf = noLeaf;
-    }
-    -- a tag over 2 before the finish, and one behind it
-    ∷ record {
-      text = 36 ∷ [];
-      tree = startRow ItemFormula ++ (leafRow TokenDollar 0 1 ++ ((3 ∷ 0 ∷ 0 ∷ 0 ∷ []) ++ finishRow ItemFormula));
-      row = 0;
-      formula = noFormula;
-      leaf = noLeaf;
-    }
-    ∷ record {
-      text = 36 ∷ [];
-      tree = startRow ItemFormula ++ (leafRow TokenDollar 0 1 ++ (finishRow ItemFormula ++ (3 ∷ 0 ∷ 0 ∷ 0 ∷ [])));
-      row = 0;
-      formula = (false, true, true);
-      leaf = noLeaf;
-    }
-    -- the last token lies outside the text, and then the first
-    ∷ record {
-      text = 36 ∷ [];
-      tree = startRow ItemFormula ++ (leafRow TokenDollar 0 1 ++ (leafRow TokenDollar 1 1 ++ finishRow ItemFormula));
-      row = 0;
-      formula = (false, true, false);
-      leaf = noLeaf;
-    }
-    ∷ record {
-      text = 36 ∷ [];
-      tree = startRow ItemFormula ++ (leafRow TokenDollar 1 1 ++ (leafRow TokenDollar 0 1 ++ finishRow ItemFormula));
-      row = 0;
-      formula = noFormula;
-      leaf = noLeaf;
-    }
-    -- a leaf that ends with the text, one that ends a byte later, and one of no bytes at the text's end
-    ∷ record {
-      text = 97 ∷ 98 ∷ [];
-      tree = leafRow TokenWord 1 1;
-      row = 0;
-      formula = noFormula;
-      leaf = (true, 1, 1);
-    }
-    ∷ record {
-      text = 97 ∷ 98 ∷ [];
-      tree = leafRow TokenWord 1 2;
-      row = 0;
-      formula = noFormula;
-      leaf = noLeaf;
-    }
-    ∷ record {
-      text = 97 ∷ 98 ∷ [];
-      tree = leafRow TokenWord 2 0;
-      row = 0;
-      formula = noFormula;
-      leaf = (true, 2, 0);
-    }
-    -- start and length that pass 32 bits together
-    ∷ record {
-      text = 97 ∷ 98 ∷ [];
-      tree = leafRow TokenWord 1 0xFFFF_FFFF;
-      row = 0;
-      formula = noFormula;
-      leaf = noLeaf;
-    }
-    ∷ []
-
-abbrev pub asked : Example → (Bool × Bool × Bool) × (Bool × ℕ × ℕ)
-asked e = (
-  (isDisplay (e .text) (e .tree) (e .row), isInline (e .text) (e .tree) (e .row), isValid (e .text) (e .tree) (e .row)),
-  (isLeaf (e .text) (e .tree) (e .row), leafRange (e .text) (e .tree) (e .row) .start, leafRange (e .text) (e .tree) (e .row) .size),
-)
-
-answers : map asked examples ≡ map (λ (e : Example). (e .formula, e .leaf)) examples
-unfolding layout tagged rangeAt isLeaf leafRange leafText openAfter balance formula firstFrom lastBefore firstToken lastToken same isDelimiter oneOf between matched
-answers = refl

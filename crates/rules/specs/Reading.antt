@@ -26,7 +26,10 @@ module _ (B : Builder) (source : Source) where
 
   -- "Last becomes the mark before an item whose reading says attachable": what last is behind the item that begins at p and ends at q
   abbrev pub lastAfter : At B → At B → At B
-  lastAfter p q = withMarks B (q .list .start) (cond (attachable (kindAt (source .tokens) (place B p)) (source .shape (place B p))) (some (B .mark (p .built))) (q .list .last)) q
+  lastAfter p q =
+      withMarks B (q .list .start)
+      (cond (attachable (kindAt (source .tokens) (place B p)) (source .shape (place B p))) (some (B .mark (p .built))) (q .list .last))
+      q
 
   -- reads an item inside a node; the Bool says whether one character of a Word is enough
   module _ (inner : Bool → Rule B) where
@@ -35,7 +38,9 @@ module _ (B : Builder) (source : Source) where
     -- `item_list`'s loop: items up to the end, or a token whose kind stops them
     unfoldable pub items : (ℕ → Bool) → ℕ → Rule B
     items stop zero p = went p
-    items stop (suc n) p = cond (next B source (λ kind. cond (stop kind) false true) p) (bind (inner false p) (λ q. items stop n (lastAfter p q))) (went p)
+    items stop (suc n) p =
+        cond (next B source (λ kind. cond (stop kind) false true) p) (bind (inner false p) (λ q. items stop n (lastAfter p q)))
+        (went p)
 
     -- `item_list`: "Groups, environments and left-right bodies read a new list and then give back the parent's marks."
     unfoldable pub itemList : Scope → Rule B
@@ -102,8 +107,8 @@ module _ (B : Builder) (source : Source) where
         ∷ [])
         p
 
-    -- `match_arguments` of a greedy command. "Start is .. a new mark inside greedy ones." "`[` and `(` are eaten plain. Last becomes the mark before each
-    -- opening brace's item, plain ones too, and each attachable item": that is what reading these as items does
+    -- `match_arguments` of a greedy command. "Start is .. a new mark inside greedy ones." "`[` and `(` are eaten plain. Last becomes the mark before
+    -- each opening brace's item, plain ones too, and each attachable item": that is what reading these as items does
     unfoldable pub greedyItems : Rule B
     greedyItems p =
         steps
@@ -253,17 +258,21 @@ module _ (B : Builder) (source : Source) where
     unfoldable pub content : Bool → Rule B
     content single p = contentFor (peek (source .tokens) (p .lexer)) single p
 
-  -- `content` inside a node below which d more may be opened: where none may, nothing is read. A builder that counts open nodes refuses before that
+  -- the knot. `contentAt (suc d)` is `content` inside a node below which d more may be opened. Level 0 stands for a node that is one too many, in
+  -- which nothing is read: a builder that counts open nodes refuses before that, so it is never reached (proofs/Depth.antt)
   unfoldable pub contentAt : ℕ → Bool → Rule B
   contentAt zero = λ single p. refused tooManyOpen (place B p)
   contentAt (suc d) = content (contentAt d)
 
-  -- `parse`: the root, a list in it, its end
-  unfoldable pub parse : B .State → Out (At B)
-  parse b =
+  -- `parse` where so many nodes may be open, root counted: the root, a list in it, its end
+  abbrev pub parseAt : ℕ → B .State → Out (At B)
+  parseAt d b =
       steps
       (start B SyntaxKind.ScopeRoot
-      ∷ itemList (contentAt (Limits.nodes)) Scope.Root
+      ∷ itemList (contentAt d) Scope.Root
       ∷ finish B SyntaxKind.ScopeRoot (B .frame b)
       ∷ [])
       (record { lexer = atStart; held = 0; list = record { scope = Scope.Root; start = none; last = none }; built = b })
+
+  unfoldable pub parse : B .State → Out (At B)
+  parse b = parseAt Limits.nodes b

@@ -30,7 +30,15 @@ module _ (B : Builder) (source : Source) where
   -- `eat_as`: what is left of the next token becomes a leaf of this kind. "A token is read once its last leaf is written"
   unfoldable pub eatAs : ℕ → Rule B
   eatAs kind p =
-      bind (leaf B (record { token = place B p; kind = kind; start = restStart (source .tokens) (p .lexer); size = restLength (source .tokens) (p .lexer) }) p)
+      bind
+      (leaf B
+      (record {
+        token = place B p;
+        kind = kind;
+        start = restStart (source .tokens) (p .lexer);
+        size = restLength (source .tokens) (p .lexer);
+      })
+      p)
       (λ q. went (withLexer B (eaten (q .lexer)) q))
 
   -- `eat`: of the kind that its own kind turns into
@@ -80,7 +88,15 @@ module _ (B : Builder) (source : Source) where
   unfoldable pub leavesFrom : ℕ → ℕ → Rule B
   leavesFrom zero i p = went p
   leavesFrom (suc n) i p =
-      bind (leaf B (record { token = i; kind = leafKind (kindAt (source .tokens) i); start = startAt (source .tokens) i; size = lengthAt (source .tokens) i }) p)
+      bind
+      (leaf B
+      (record {
+        token = i;
+        kind = leafKind (kindAt (source .tokens) i);
+        start = startAt (source .tokens) i;
+        size = lengthAt (source .tokens) i;
+      })
+      p)
       (λ q. leavesFrom n (i + 1) q)
 
   -- `extract_holding_trivia`: "what is left follows the command's node"
@@ -91,7 +107,14 @@ module _ (B : Builder) (source : Source) where
 
   -- `text`, "as the source has" it: `a, b` is one text
   unfoldable pub text : Rule B
-  text p = steps (start B SyntaxKind.ItemText ∷ eat ∷ (λ q. eatWhile isTextComponent (turns q) q) ∷ finish B SyntaxKind.ItemText (B .frame (p .built)) ∷ []) p
+  text p =
+      steps
+      (start B SyntaxKind.ItemText
+      ∷ eat
+      ∷ (λ q. eatWhile isTextComponent (turns q) q)
+      ∷ finish B SyntaxKind.ItemText (B .frame (p .built))
+      ∷ [])
+      p
 
   -- what `clause_lr` takes as the delimiter: of a Word its first character, no command but a Generic one, and no `$`
   abbrev pub delimiterOf : Option ℕ → Rule B

@@ -45,11 +45,24 @@ orTooManyOpen place g go = cond (leb Limits.nodes (length (g .parents))) (refuse
 unfoldable pub token : ℕ → ℕ → Leaf → Green → Out Green
 token room place l g =
     orNoRoom room place g
-    (went (record { parents = g .parents; children = g .children ++ (leaf (l .kind) (l .start) (l .size) ∷ []); rows = g .rows + 1; leaves = g .leaves + 1; dropped = g .dropped }))
+    (went (record {
+      parents = g .parents;
+      children = g .children ++ (leaf (l .kind) (l .start) (l .size) ∷ []);
+      rows = g .rows + 1;
+      leaves = g .leaves + 1;
+      dropped = g .dropped;
+    }))
 
 -- a parent is pushed, with a count of finished children as its first
 unfoldable pub pushed : ℕ → ℕ → Green → Green
-pushed kind first g = record { parents = record { kind = kind; first = first } ∷ g .parents; children = g .children; rows = g .rows + 1; leaves = g .leaves; dropped = g .dropped }
+pushed kind first g =
+    record {
+      parents = record { kind = kind; first = first } ∷ g .parents;
+      children = g .children;
+      rows = g .rows + 1;
+      leaves = g .leaves;
+      dropped = g .dropped;
+    }
 
 -- `start_node`: what comes next is its first child
 unfoldable pub startNode : ℕ → ℕ → ℕ → Green → Out Green
@@ -73,6 +86,17 @@ finishNode room place g =
     let left = popped (g .parents) (g .children) in
     orNoRoom room place g (went (record { parents = left .0; children = left .1; rows = g .rows + 1; leaves = g .leaves; dropped = g .dropped }))
 
+-- "Dropped row: token index, reason (1 trivia, 2 opener, 3 closer), leaves written before it."
+abbrev pub noted : ℕ → ℕ → Green → Green
+noted i reason g =
+    record {
+      parents = g .parents;
+      children = g .children;
+      rows = g .rows;
+      leaves = g .leaves;
+      dropped = g .dropped ++ droppedRow i reason (g .leaves);
+    }
+
 -- rowan's builder, for a tree buffer of so many numbers. "A mark counts finished children"; a parent's frame stands on the stack
 abbrev pub rowan : ℕ → Builder
 rowan room =
@@ -86,7 +110,7 @@ rowan room =
       start = startNode room;
       startAt = startNodeAt room;
       finish = λ place kind f. finishNode room place;
-      drop = λ i reason g. record { parents = g .parents; children = g .children; rows = g .rows; leaves = g .leaves; dropped = g .dropped ++ droppedRow i reason (g .leaves) };
+      drop = noted;
     }
 
 -- nothing was built yet

@@ -52,8 +52,8 @@ statesAt sheet = endOf sheet (shapesAt sheet)
 abbrev pub wholeNumbers : List ℕ → ℕ → Bool
 wholeNumbers sheet at = eqb (numberAt sheet at % numberBytes) 0
 
--- "A sheet that is longer, of another version, cut short, followed by more, or with a table not of whole numbers" is refused: this one is none of these.
--- A sheet that is cut short has a section that ends past its end, and one that is followed by more ends behind its last section
+-- "A sheet that is longer, of another version, cut short, followed by more, or with a table not of whole numbers" is refused: this one is none of
+-- these. A sheet that is cut short has a section that ends past its end, and one that is followed by more ends behind its last section
 unfoldable pub readable : List ℕ → Bool
 readable sheet =
     leb (length sheet) mostBytes
@@ -81,8 +81,9 @@ read sheet = cond (readable sheet) (some (tablesOf sheet)) none
 abbrev pub unreadable : ℕ
 unreadable = 9
 
--- ---- the other way round: the bytes of tables. A sheet of at most 32,768 bytes is read exactly when it is the bytes of some tables, and it is those that
--- are read (`read-back`, `only-bytes`)
+-- ---- the other way round: the bytes of tables
+
+-- A sheet of at most 32,768 bytes is read exactly when it is the bytes of some tables, and it is those that are read (`read-back`, `only-bytes`)
 abbrev pub bytesOfNumber : ℕ → List ℕ
 bytesOfNumber n = n / 256 / 256 / 256 % 256 ∷ n / 256 / 256 % 256 ∷ n / 256 % 256 ∷ n % 256 ∷ []
 

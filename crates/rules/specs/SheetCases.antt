@@ -3,46 +3,45 @@ use Prim.Native.Nat.{ℕ}
 use mathlib.Core.Path.{_≡_, refl}
 use mathlib.Core.List.{List, [], _∷_, _++_, map}
 use lib.ListN.{length, take, drop, replicate}
-use Rattle.rules.specs.Scope as Scope
-use Rattle.rules.specs.Kinds as Kinds
-use Rattle.rules.specs.Characters as Characters
-use Rattle.rules.specs.Cursor as Cursor
-use Rattle.rules.specs.Matcher as Matcher
-use Rattle.rules.specs.Flat as Flat
-use Rattle.rules.specs.Position as Position
-use Rattle.rules.specs.Items as Items
-use Rattle.rules.specs.Routines as Routines
-use Rattle.rules.specs.Reading as Reading
-use Rattle.rules.specs.Checks as Checks
-use Rattle.rules.specs.Run as Run
-use Rattle.rules.specs.Questions as Questions
-use Rattle.rules.specs.Sheet as Sheet
-use Rattle.rules.specs.Listing as Listing
-use Rattle.rules.specs.Treelist as Treelist
+use Rattle.rules.specs.Computed.{the-run}
+use Rattle.rules.specs.Listing
+use Rattle.rules.specs.Notation.{bytes}
+use Rattle.rules.specs.Questions
+use Rattle.rules.specs.Sheet
+use Rattle.rules.specs.Treelist
 
 pub record Case : Type 0 where
   pub sheet : List ℕ
   pub prints : List ℕ
 
--- `\frac 1 2`, "Whole case, 118 bytes": the version, then text, tokens, shapes and states, a length before each
+-- "numbers 4 bytes, all big-endian": small ones
+abbrev pub four : ℕ → List ℕ
+four n = 0 ∷ 0 ∷ 0 ∷ n ∷ []
+
+abbrev pub numbers : List ℕ → List ℕ
+numbers [] = []
+numbers (n ∷ rest) = four n ++ numbers rest
+
+-- "Whole case, 118 bytes: text `\frac 1 2`; tokens (26,0,5,1) (1,5,1,0) (21,6,1,0) (1,7,1,0) (21,8,1,0); shape (1,1,2); no states".
+-- Before each stands its length
 abbrev pub fracText : List ℕ
-fracText = 0 ∷ 0 ∷ 0 ∷ 9 ∷ 92 ∷ 102 ∷ 114 ∷ 97 ∷ 99 ∷ 32 ∷ 49 ∷ 32 ∷ 50 ∷ []
+fracText = four 9 ++ bytes "\\frac 1 2"
 
 abbrev pub fracTokens : List ℕ
 fracTokens =
-    0 ∷ 0 ∷ 0 ∷ 80
-    ∷ 0 ∷ 0 ∷ 0 ∷ 26 ∷ 0 ∷ 0 ∷ 0 ∷ 0 ∷ 0 ∷ 0 ∷ 0 ∷ 5 ∷ 0 ∷ 0 ∷ 0 ∷ 1
-    ∷ 0 ∷ 0 ∷ 0 ∷ 1 ∷ 0 ∷ 0 ∷ 0 ∷ 5 ∷ 0 ∷ 0 ∷ 0 ∷ 1 ∷ 0 ∷ 0 ∷ 0 ∷ 0
-    ∷ 0 ∷ 0 ∷ 0 ∷ 21 ∷ 0 ∷ 0 ∷ 0 ∷ 6 ∷ 0 ∷ 0 ∷ 0 ∷ 1 ∷ 0 ∷ 0 ∷ 0 ∷ 0
-    ∷ 0 ∷ 0 ∷ 0 ∷ 1 ∷ 0 ∷ 0 ∷ 0 ∷ 7 ∷ 0 ∷ 0 ∷ 0 ∷ 1 ∷ 0 ∷ 0 ∷ 0 ∷ 0
-    ∷ 0 ∷ 0 ∷ 0 ∷ 21 ∷ 0 ∷ 0 ∷ 0 ∷ 8 ∷ 0 ∷ 0 ∷ 0 ∷ 1 ∷ 0 ∷ 0 ∷ 0 ∷ 0 ∷ []
+    four 80
+    ++ numbers (26 ∷ 0 ∷ 5 ∷ 1 ∷ [])
+    ++ numbers (1 ∷ 5 ∷ 1 ∷ 0 ∷ [])
+    ++ numbers (21 ∷ 6 ∷ 1 ∷ 0 ∷ [])
+    ++ numbers (1 ∷ 7 ∷ 1 ∷ 0 ∷ [])
+    ++ numbers (21 ∷ 8 ∷ 1 ∷ 0 ∷ [])
 
 abbrev pub fracShapes : List ℕ
-fracShapes = 0 ∷ 0 ∷ 0 ∷ 12 ∷ 0 ∷ 0 ∷ 0 ∷ 1 ∷ 0 ∷ 0 ∷ 0 ∷ 1 ∷ 0 ∷ 0 ∷ 0 ∷ 2 ∷ []
+fracShapes = four 12 ++ numbers (1 ∷ 1 ∷ 2 ∷ [])
 
 -- a section of no bytes
 abbrev pub nothing : List ℕ
-nothing = 0 ∷ 0 ∷ 0 ∷ 0 ∷ []
+nothing = four 0
 
 abbrev pub frac : List ℕ
 frac = 1 ∷ (fracText ++ (fracTokens ++ (fracShapes ++ nothing)))
@@ -53,27 +52,26 @@ frac-bytes = refl
 -- the ten lines of 01, each with its line break
 abbrev pub fracPrints : List ℕ
 fracPrints =
-    (111 ∷ 107 ∷ 32 ∷ 49 ∷ 49 ∷ 32 ∷ 50 ∷ 10 ∷ [])
-    ++ (48 ∷ 32 ∷ 52 ∷ 52 ∷ 10 ∷ [])
-    ++ (49 ∷ 32 ∷ 51 ∷ 53 ∷ 10 ∷ [])
-    ++ (50 ∷ 32 ∷ 50 ∷ 55 ∷ 32 ∷ 48 ∷ 32 ∷ 53 ∷ 10 ∷ [])
-    ++ (50 ∷ 32 ∷ 50 ∷ 56 ∷ 10 ∷ [])
-    ++ (51 ∷ 32 ∷ 49 ∷ 51 ∷ 32 ∷ 54 ∷ 32 ∷ 49 ∷ 10 ∷ [])
-    ++ (50 ∷ 32 ∷ 50 ∷ 56 ∷ 10 ∷ [])
-    ++ (51 ∷ 32 ∷ 49 ∷ 51 ∷ 32 ∷ 56 ∷ 32 ∷ 49 ∷ 10 ∷ [])
-    ++ (100 ∷ 32 ∷ 49 ∷ 32 ∷ 49 ∷ 32 ∷ 49 ∷ 10 ∷ [])
-    ++ (100 ∷ 32 ∷ 51 ∷ 32 ∷ 49 ∷ 32 ∷ 50 ∷ 10 ∷ [])
+    bytes "ok 11 2\n"
+    ++ bytes "0 44\n"
+    ++ bytes "1 35\n"
+    ++ bytes "2 27 0 5\n"
+    ++ bytes "2 28\n"
+    ++ bytes "3 13 6 1\n"
+    ++ bytes "2 28\n"
+    ++ bytes "3 13 8 1\n"
+    ++ bytes "d 1 1 1\n"
+    ++ bytes "d 3 1 2\n"
 
--- `refused 9 0` and `refused 1 0`
 abbrev pub refused9 : List ℕ
-refused9 = 114 ∷ 101 ∷ 102 ∷ 117 ∷ 115 ∷ 101 ∷ 100 ∷ 32 ∷ 57 ∷ 32 ∷ 48 ∷ 10 ∷ []
+refused9 = bytes "refused 9 0\n"
 
 abbrev pub refused1 : List ℕ
-refused1 = 114 ∷ 101 ∷ 102 ∷ 117 ∷ 115 ∷ 101 ∷ 100 ∷ 32 ∷ 49 ∷ 32 ∷ 48 ∷ 10 ∷ []
+refused1 = bytes "refused 1 0\n"
 
--- the root alone: `ok 2 0` and `0 44`
+-- the root alone
 abbrev pub root : List ℕ
-root = 111 ∷ 107 ∷ 32 ∷ 50 ∷ 32 ∷ 48 ∷ 10 ∷ 48 ∷ 32 ∷ 52 ∷ 52 ∷ 10 ∷ []
+root = bytes "ok 2 0\n" ++ bytes "0 44\n"
 
 -- a text of so many letters, which two bytes count, and no tables
 abbrev pub long : ℕ → ℕ → ℕ → List ℕ
@@ -95,15 +93,15 @@ cases =
     -- a text that claims 4 GiB less one byte; tokens that claim 12 bytes less than 4 GiB: in a sum of 32 bits shapes and states would then be found
     -- inside the text, and the last section would end where the sheet does
     ∷ record { sheet = 1 ∷ 255 ∷ 255 ∷ 255 ∷ 255 ∷ (nothing ++ (nothing ++ nothing)); prints = refused9 }
-    ∷ record { sheet = 1 ∷ 0 ∷ 0 ∷ 0 ∷ 8 ∷ 0 ∷ 0 ∷ 0 ∷ 0 ∷ 0 ∷ 0 ∷ 0 ∷ 4 ∷ 255 ∷ 255 ∷ 255 ∷ 244 ∷ []; prints = refused9 }
+    ∷ record { sheet = 1 ∷ (numbers (8 ∷ 0 ∷ 4 ∷ []) ++ (255 ∷ 255 ∷ 255 ∷ 244 ∷ [])); prints = refused9 }
     -- tokens of 3 bytes are no whole numbers; of 4 bytes they are, and no whole row
-    ∷ record { sheet = 1 ∷ (nothing ++ (0 ∷ 0 ∷ 0 ∷ 3 ∷ 0 ∷ 0 ∷ 0 ∷ (nothing ++ nothing))); prints = refused9 }
-    ∷ record { sheet = 1 ∷ (nothing ++ (0 ∷ 0 ∷ 0 ∷ 4 ∷ 0 ∷ 0 ∷ 0 ∷ 0 ∷ (nothing ++ nothing))); prints = refused1 }
+    ∷ record { sheet = 1 ∷ (nothing ++ (four 3 ++ (0 ∷ 0 ∷ 0 ∷ (nothing ++ nothing)))); prints = refused9 }
+    ∷ record { sheet = 1 ∷ (nothing ++ (four 4 ++ (four 0 ++ (nothing ++ nothing)))); prints = refused1 }
     -- "at most 32,768 bytes": with a text of 32,751 it has so many, with 32,752 one more
     ∷ record { sheet = long 32751 127 239; prints = root }
     ∷ record { sheet = long 32752 127 240; prints = refused9 }
     ∷ []
 
-examples : map (λ (c : Case). Treelist.printed (c .sheet)) cases ≡ map (λ (c : Case). c .prints) cases
-unfolding Scope.stops Kinds.isTrivia Kinds.isTextComponent Kinds.leafKind Characters.charLength Characters.characters Characters.isUtf8 Cursor.peek Cursor.restStart Cursor.restLength Cursor.peekText Cursor.consumed Cursor.left Matcher.startMatch Matcher.tryMatch Matcher.matchAsTerm Flat.leafed Flat.leaf Flat.started Flat.start Flat.finished Flat.finish Flat.startAtRow Flat.startedAt Flat.startAt Flat.wrap Position.steps Position.wrap Items.attachable Items.greedyStops Items.choose Routines.eatAs Routines.eat Routines.eatIf Routines.eatWhile Routines.trivia Routines.singleChar Routines.oneIn Routines.dropFrom Routines.ignoreHoldingTrivia Routines.leavesFrom Routines.extractHoldingTrivia Routines.text Routines.delimiter Routines.clauseLr Routines.dropNext Routines.eatBodyOfIfs Routines.skippedBody Routines.startAround Routines.left1Command Routines.argumentBegins Routines.argumentEnds Routines.argumentNode Routines.endClause Routines.rightClause Reading.items Reading.itemList Reading.itemGroup Reading.piece Reading.argument Reading.arguments Reading.matchArguments Reading.greedyItems Reading.greedyArgument Reading.greedyCommand Reading.matchedCommand Reading.commandOf Reading.environmentArguments Reading.beginClause Reading.environmentItem Reading.itemLr Reading.script Reading.attachmentAt Reading.attachTo Reading.attachComponent Reading.readItem Reading.content Reading.contentAt Reading.parse Checks.firstBad Checks.withinLimits Checks.wordRight Checks.tokenRight Checks.valueRight Checks.shapeRight Checks.stateRight Checks.shapeOrStateRight Checks.checks Checks.shapeOf Run.run Questions.openAfter Sheet.numberAt Sheet.numbersAt Sheet.endOf Sheet.readable Sheet.read Listing.decimalIn Listing.decimal Listing.numbered Listing.line Listing.treeLine Listing.treeLines Listing.droppedLine Listing.droppedLines Listing.listing Treelist.printed
+pub examples : map (λ (c : Case). Treelist.printed (c .sheet)) cases ≡ map (λ (c : Case). c .prints) cases
+unfolding the-run Questions.openAfter Sheet.numberAt Sheet.numbersAt Sheet.endOf Sheet.readable Sheet.read Listing.decimalIn Listing.decimal Listing.numbered Listing.line Listing.treeLine Listing.treeLines Listing.droppedLine Listing.droppedLines Listing.listing Treelist.printed
 examples = refl

@@ -1,0 +1,8 @@
+-- The rules agree with 01, and with answers of the Rust, on every formula and sheet of the tables: antt computes both sides. These theorems stand
+-- first, by this file's name, so that a slip in a rule is told by a formula whose answer it changes, before a proof that follows the rule's shape.
+pub use Rattle.rules.specs.Cases.{examples as formulas-agree}
+pub use Rattle.rules.specs.DroppedCases.{examples as dropped-rows-agree}
+pub use Rattle.rules.specs.Placed.{example as places-agree}
+pub use Rattle.rules.specs.PutBackCases.{examples as put-back-agrees}
+pub use Rattle.rules.specs.QuestionCases.{examples as questions-agree}
+pub use Rattle.rules.specs.SheetCases.{examples as sheets-agree}

@@ -1,0 +1,112 @@
+-- Questions about trees and their answers, as one table, and one theorem over it that antt computes.
+use Prim.Native.Nat.{ℕ}
+use Prim.Native.String.{String}
+use mathlib.Core.Path.{_≡_, refl}
+use mathlib.Core.Bool.{Bool, true, false}
+use mathlib.Core.List.{List, [], _∷_, _++_, map}
+use Rattle.rules.specs.Flat.{leafRow, startRow, finishRow, tagFinish}
+use Rattle.rules.specs.Notation.{bytes, Shown, nothing, node, leaf, _&_, rowsOf, Root, Text, BlockComment}
+use Rattle.rules.specs.Questions
+use Rattle.rules.specs.SyntaxKind.{ItemFormula, ItemText, ScopeRoot, TokenWord, TokenDollar, TokenBeginMath, TokenEndMath}
+
+-- whether a formula is display, inline, valid
+abbrev pub Formula : Type 0
+Formula = Bool × Bool × Bool
+
+abbrev pub noFormula : Formula
+noFormula = (false, false, false)
+
+-- whether a row is a leaf inside the text, and its text's start and size
+abbrev pub Leaf : Type 0
+Leaf = Bool × ℕ × ℕ
+
+abbrev pub noLeaf : Leaf
+noLeaf = (false, 0, 0)
+
+-- a row of a tree over a text, and the answers
+pub record Case : Type 0 where
+  pub text : List ℕ
+  pub tree : List ℕ
+  pub row : ℕ
+  pub formula : Formula
+  pub leaf : Leaf
+
+-- a row that is no leaf inside the text, and one that is no formula
+abbrev pub formulaAt : ℕ → List ℕ → String → Formula → Case
+formulaAt row tree text answer = record { text = bytes text; tree = tree; row = row; formula = answer; leaf = noLeaf }
+
+abbrev pub leafAt : ℕ → List ℕ → String → Leaf → Case
+leafAt row tree text answer = record { text = bytes text; tree = tree; row = row; formula = noFormula; leaf = answer }
+
+-- a formula in row 1, in the root
+abbrev pub inRoot : Shown → List ℕ
+inRoot inside = rowsOf (Root (node ItemFormula inside))
+
+-- rows of a formula that need not balance
+abbrev pub bare : List ℕ → List ℕ
+bare rows = startRow ItemFormula ++ rows
+
+abbrev pub dollar : String → Shown
+dollar text = leaf TokenDollar text
+
+abbrev pub begin : String → Shown
+begin text = leaf TokenBeginMath text
+
+abbrev pub end : String → Shown
+end text = leaf TokenEndMath text
+
+abbrev pub cases : List Case
+cases =
+    formulaAt 1 (inRoot (dollar "$" & Text "a" & dollar "$")) "$a$" (false, true, true)
+    ∷ formulaAt 1 (inRoot (dollar "$$" & Text "a" & dollar "$$")) "$$a$$" (true, false, true)
+    ∷ formulaAt 1 (inRoot (begin "\\(" & Text "a" & end "\\)")) "\\(a\\)" (false, true, true)
+    ∷ formulaAt 1 (inRoot (begin "\\[" & Text "a" & end "\\]")) "\\[a\\]" (true, false, true)
+    ∷ formulaAt 1 (inRoot (begin "\\[" & Text "a" & end "\\)")) "\\[a\\)" (true, false, false)
+    -- "a lone `$` is valid"
+    ∷ formulaAt 1 (inRoot (dollar "$")) "$" (false, true, true)
+    ∷ formulaAt 1 (inRoot (dollar "$" & Text "a" & dollar "$$")) "$a$$" (false, true, false)
+    -- the last child is an empty node; the first is, though a `$` follows
+    ∷ formulaAt 1 (inRoot (dollar "$" & BlockComment nothing)) "$\\iffalse\\fi" (false, true, false)
+    ∷ formulaAt 1 (inRoot (BlockComment nothing & dollar "$")) "$" noFormula
+    -- the tokens lie deeper
+    ∷ formulaAt 1 (inRoot (node ItemText (node ItemText (dollar "$")) & node ItemText (dollar "$"))) "$$" (false, true, true)
+    -- a formula with nothing in it
+    ∷ formulaAt 1 (inRoot nothing) "" noFormula
+    -- a start of another kind; a leaf; a finish; no row
+    ∷ formulaAt 0 (inRoot (dollar "$")) "$" noFormula
+    ∷ leafAt 2 (inRoot (dollar "$")) "$" (true, 0, 1)
+    ∷ formulaAt 3 (inRoot (dollar "$")) "$" noFormula
+    ∷ formulaAt 5 (inRoot (dollar "$")) "$" noFormula
+    -- a finish of another kind matches
+    ∷ formulaAt 0 (bare (leafRow TokenDollar 0 1 ++ finishRow ScopeRoot)) "$" (false, true, true)
+    -- no finish matches; three numbers of one are no row
+    ∷ formulaAt 0 (bare (leafRow TokenDollar 0 1 ++ (startRow ItemText ++ finishRow ItemText))) "$" noFormula
+    ∷ formulaAt 0 (bare (leafRow TokenDollar 0 1 ++ (tagFinish ∷ ItemFormula ∷ 0 ∷ []))) "$" noFormula
+    -- a tag over 2 before the finish, and one behind it
+    ∷ formulaAt 0 (bare (leafRow TokenDollar 0 1 ++ ((3 ∷ 0 ∷ 0 ∷ 0 ∷ []) ++ finishRow ItemFormula))) "$" noFormula
+    ∷ formulaAt 0 (bare (leafRow TokenDollar 0 1 ++ (finishRow ItemFormula ++ (3 ∷ 0 ∷ 0 ∷ 0 ∷ [])))) "$" (false, true, true)
+    -- the last token lies outside the text, and then the first
+    ∷ formulaAt 0 (bare (leafRow TokenDollar 0 1 ++ (leafRow TokenDollar 1 1 ++ finishRow ItemFormula))) "$" (false, true, false)
+    ∷ formulaAt 0 (bare (leafRow TokenDollar 1 1 ++ (leafRow TokenDollar 0 1 ++ finishRow ItemFormula))) "$" noFormula
+    -- a leaf that ends with the text, one that ends a byte later, and one of no bytes at the text's end
+    ∷ leafAt 0 (leafRow TokenWord 1 1) "ab" (true, 1, 1)
+    ∷ leafAt 0 (leafRow TokenWord 1 2) "ab" noLeaf
+    ∷ leafAt 0 (leafRow TokenWord 2 0) "ab" (true, 2, 0)
+    -- start and length that pass 32 bits together
+    ∷ leafAt 0 (leafRow TokenWord 1 0xFFFF_FFFF) "ab" noLeaf
+    ∷ []
+
+-- what is asked of a row, and what is expected
+abbrev pub asked : Case → Formula × Leaf
+asked c =
+    let range = Questions.leafRange (c .text) (c .tree) (c .row) in (
+      (Questions.isDisplay (c .text) (c .tree) (c .row), Questions.isInline (c .text) (c .tree) (c .row), Questions.isValid (c .text) (c .tree) (c .row)),
+      (Questions.isLeaf (c .text) (c .tree) (c .row), range .start, range .size),
+    )
+
+abbrev pub wanted : Case → Formula × Leaf
+wanted c = (c .formula, c .leaf)
+
+pub examples : map asked cases ≡ map wanted cases
+unfolding rowsOf Questions.tagged Questions.rangeAt Questions.isLeaf Questions.leafRange Questions.leafText Questions.openAfter Questions.balance Questions.formula Questions.firstFrom Questions.lastBefore Questions.firstToken Questions.lastToken Questions.same Questions.isDelimiter Questions.oneOf Questions.between Questions.matched
+examples = refl
