@@ -34,3 +34,94 @@ Place place t = place (claims t) (measures.script .at t) own.Post
 
 abbrev pub Start : ℕ → Type 0
 Start = Place lts.Start
+
+module _ {t : ℕ} where
+  abbrev pub then1→entry : Place lts.Then1 t → Place lts.Start t
+  then1→entry c = c .before .before .before .before .before .before .before
+
+  abbrev pub else1→entry : Place lts.Else1 t → Place lts.Start t
+  else1→entry c = c .before .before .before .before .before .before .before
+
+  abbrev pub then2→entry : Place lts.Then2 t → Place lts.Start t
+  then2→entry c = c .before .before .before .before .before .before .before .before .before
+
+  abbrev pub word-character-arg→then2 : Place lts.After-word-character-arg t → Place lts.Then2 t
+  word-character-arg→then2 c = c .before
+
+  abbrev pub word-character-arg→entry : Place lts.After-word-character-arg t → Place lts.Start t
+  word-character-arg→entry c = then2→entry (word-character-arg→then2 c)
+
+  abbrev pub returns-2→word-character : Place lts.After-slice-known3 t → Place lts.After-word-character t
+  returns-2→word-character c = c .before .before
+
+  abbrev pub returns-2→then2 : Place lts.After-slice-known3 t → Place lts.Then2 t
+  returns-2→then2 c = c .before .before .before .before
+
+  abbrev pub returns-2→else1 : Place lts.After-slice-known3 t → Place lts.Else1 t
+  returns-2→else1 c = c .before .before .before .before .before .before
+
+  abbrev pub trivia-arg→entry : Place lts.After-trivia-arg t → Place lts.Start t
+  trivia-arg→entry c = c .before .before .before .before .before .before .before .before .before .before
+
+  abbrev pub trivia→else1 : Place lts.After-trivia t → Place lts.Else1 t
+  trivia→else1 c = c .before .before .before .before
+
+  abbrev pub trivia→entry : Place lts.After-trivia t → Place lts.Start t
+  trivia→entry c = else1→entry (trivia→else1 c)
+
+  abbrev pub passed→trivia : Place lts.After-passed t → Place lts.After-trivia t
+  passed→trivia c = c .before .before .before .before
+
+  abbrev pub passed→entry : Place lts.After-passed t → Place lts.Start t
+  passed→entry c = trivia→entry (passed→trivia c)
+
+  abbrev pub again→trivia : Place lts.After-again t → Place lts.After-trivia t
+  again→trivia c = c .before .before .before .before .before
+
+  abbrev pub then3→passed : Place lts.Then3 t → Place lts.After-passed t
+  then3→passed c = c .before .before .before
+
+  abbrev pub then4→passed : Place lts.Then4 t → Place lts.After-passed t
+  then4→passed c = c .before .before .before .before .before
+
+  abbrev pub then4→entry : Place lts.Then4 t → Place lts.Start t
+  then4→entry c = passed→entry (then4→passed c)
+
+  abbrev pub word-character-arg2→then4 : Place lts.After-word-character-arg2 t → Place lts.Then4 t
+  word-character-arg2→then4 c = c .before
+
+  abbrev pub word-character-arg2→passed : Place lts.After-word-character-arg2 t → Place lts.After-passed t
+  word-character-arg2→passed c = then4→passed (word-character-arg2→then4 c)
+
+  abbrev pub word-character-arg2→entry : Place lts.After-word-character-arg2 t → Place lts.Start t
+  word-character-arg2→entry c = passed→entry (word-character-arg2→passed c)
+
+  abbrev pub again2→word-character2 : Place lts.After-again2 t → Place lts.After-word-character2 t
+  again2→word-character2 c = c .before .before .before
+
+  abbrev pub again2→then4 : Place lts.After-again2 t → Place lts.Then4 t
+  again2→then4 c = c .before .before .before .before .before
+
+  abbrev pub again2→passed : Place lts.After-again2 t → Place lts.After-passed t
+  again2→passed c = then4→passed (again2→then4 c)
+
+  abbrev pub inside-arg2→else3 : Place lts.After-inside-arg2 t → Place lts.Else3 t
+  inside-arg2→else3 c = c .before .before .before .before
+
+  abbrev pub inside-arg2→passed : Place lts.After-inside-arg2 t → Place lts.After-passed t
+  inside-arg2→passed c = c .before .before .before .before .before .before .before
+
+  abbrev pub inside-arg2→entry : Place lts.After-inside-arg2 t → Place lts.Start t
+  inside-arg2→entry c = passed→entry (inside-arg2→passed c)
+
+  abbrev pub again3→inside : Place lts.After-again3 t → Place lts.After-inside t
+  again3→inside c = c .before .before .before .before .before
+
+  abbrev pub again3→else4 : Place lts.After-again3 t → Place lts.Else4 t
+  again3→else4 c = c .before .before .before .before .before .before .before .before
+
+  abbrev pub again3→word-next2 : Place lts.After-again3 t → Place lts.After-word-next2 t
+  again3→word-next2 c = c .before .before .before .before .before .before .before .before .before
+
+  abbrev pub again3→passed : Place lts.After-again3 t → Place lts.After-passed t
+  again3→passed c = c .before .before .before .before .before .before .before .before .before .before .before .before .before
