@@ -1,5 +1,5 @@
--- The measures of the cycle, and what each member is given and asks. What falls is the number of nodes that may yet be opened; of members that call each
--- other in one node the caller has the higher rank.
+-- The measures of the cycle, and what each member is given and asks. What falls is the number of nodes that may yet be opened; of members that call
+-- each other in one node the caller has the higher rank.
 use Prim.Native.Nat.{ℕ, _<_, _+_, _*_, _-_}
 use mathlib.Core.List.{List, _++_}
 use borrow.Fn.Kinds.{In, PK}
