@@ -17,19 +17,27 @@ treelist:
 examples: treelist
 	examples/check
 
-# The proved parser as a static library for C and Rust: target/staticlib/libffi.a, beside include/cartglaze.h.
+# The proved parser as a static library for C and Rust, beside include/cartglaze.h: target/staticlib/libffi.a. It is for x86-64; on another machine
+# tools/native compiles the same for that machine, into target/native/libffi.a.
+ifeq ($(shell uname -m),x86_64)
+LIBRARY = $(CURDIR)/target/staticlib
 ffi:
 	rt staticlib ffi
+else
+LIBRARY = $(CURDIR)/target/native
+ffi:
+	tools/native
+endif
 
 # The library through its C header and through the safe Rust crate: what both give is compared with what is stored.
 ffi-test: ffi target/ffi/example target/ffi/list
 	target/ffi/example | diff ffi-c/expected -
 	TREELIST=$(CURDIR)/target/ffi/list examples/check
-	cargo test --offline --release --manifest-path ffi-rust/Cargo.toml --target-dir target/ffi/rust -- --nocapture
+	CARTGLAZE_LIB=$(LIBRARY) cargo test --offline --release --manifest-path ffi-rust/Cargo.toml --target-dir target/ffi/rust -- --nocapture
 
 target/ffi/%: ffi-c/%.c include/cartglaze.h ffi
 	mkdir -p target/ffi
-	$(CC) -std=c11 -Wall -Wextra -Werror -pedantic -Iinclude $< target/staticlib/libffi.a -o $@
+	$(CC) -std=c11 -Wall -Wextra -Werror -pedantic -Iinclude $< $(LIBRARY)/libffi.a -o $@
 
 # The real Rust, built from the sources in the folder that MITEX_SRC names, beside the port.
 oracle:
@@ -60,6 +68,6 @@ hostile:
 # The port, the Rust's parser and a Vec of rows on the same tokens; before them what the library calls, and its stack.
 bench:
 	./oracle/beside
-	nm -u target/staticlib/libffi.a
+	nm -u $(LIBRARY)/libffi.a
 	target/oracle/release/bench stack
 	target/oracle/release/bench
