@@ -123,25 +123,25 @@ module _ (b : GreenNodeBuilder) (t part : List ℕ) (kind : ℕ) (m : Checkpoint
       }
 
   -- where the part that is lent on begins, and where it would end without the free row
-  abbrev x : ℕ
-  x = a * treeWidth
+  abbrev begin : ℕ
+  begin = a * treeWidth
 
-  abbrev y : ℕ
-  y = b .rows * treeWidth
+  abbrev end : ℕ
+  end = b .rows * treeWidth
 
   pub opened :
       StartRow b [] m a
-      → y + treeWidth ≤ length t
-      → Returned x y treeWidth t part (flat.startRow kind)
-      → Opened b t kind m withStartAt (putMid x (y + treeWidth - x) t part)
+      → end + treeWidth ≤ length t
+      → Returned begin end treeWidth t part (flat.startRow kind)
+      → Opened b t kind m withStartAt (putMid begin (end + treeWidth - begin) t part)
   unfolding flat.startedAt flat.startAtRow
   opened at fit e =
       let high = at .high in
-      let low : x ≤ y = omega arith in
+      let low : begin ≤ end = omega arith in
       let row = flat.startRow kind in
       record {
-        is = rw (at .is, next-row treeWidth (b .rows), ← inserted x y treeWidth t part row low fit refl e);
-        rest = rw (next-row treeWidth (b .rows)) (behind x y treeWidth t part row low fit refl e);
+        is = rw (at .is, next-row treeWidth (b .rows), ← inserted begin end treeWidth t part row low fit refl e);
+        rest = rw (next-row treeWidth (b .rows)) (behind begin end treeWidth t part row low fit refl e);
         rows = refl;
         leaves = refl;
         depth = refl;
