@@ -1,5 +1,6 @@
 -- What is dropped is exactly what the demand lists: of every accepted run, the dropped rows are those that `Exactly.dropped` reads off the run's tree
--- and the kinds of the tokens. The run's rows are those of that tree. Assumes nothing.
+-- and the kinds of the tokens. The run's rows are those of that tree. The flat run's tree is rowan's (Alike.antt), rowan's is the one with places
+-- (Noting.antt), and of that one every routine keeps that its dropped rows are the definition's (Control.antt). Assumes nothing.
 use Prim.Native.Nat.{ℕ, _*_, _/_}
 use mathlib.Core.Path.{_≡_, refl, sym, ap, _∙_}
 use mathlib.Core.List.{List, [], _∷_}
