@@ -9,7 +9,7 @@ use Rattle.rules.specs.Outcome.{Out, went}
 use Rattle.rules.specs.Checks.{Tables, sourceOf}
 use Rattle.routines.specs.Stands.{Buffers, Here, posOf, outOf}
 use Rattle.routines.specs.Change.{relisted, remarked, unheld}
-use Rattle.routines.specs.Contract.{MarkOk, Ready, Left, Gone, Runs, Ran, RuleOf}
+use Rattle.routines.specs.Contract.{MarkOk, Ready, Left, Gone, Runs, Ran, RuleOf, weight}
 use Rattle.routines.specs.declared.state.ListState.{ListState}
 use Rattle.routines.specs.declared.state.KeptMark.{KeptMark}
 use Rattle.routines.specs.declared.state.Parser.{Parser}
@@ -47,62 +47,19 @@ module _ {t : Tables} {rule f : Rule} {rest : List Rule} {gain lift : ℕ} {scop
   unfolding line
   stepped z is d h = w .is d h ∙ rw (is (length (m .tree)) d)
 
-  -- the code took another list
-  pub relists : {z : Parser} (l : ListState) → z ≡ relisted u l → MarkOk (l .start) (u .builder) → MarkOk (l .last) (u .builder) → Goes (relisted u l)
-      → Walk t rule rest gain lift (l .scope) s m z v
-  relists l e first last is =
-      let p = w .passed in
-      let y = w .ready .steady in
-      rw e
-      (record {
-        is = stepped (relisted u l) is;
-        passed = record {
-          tree = p .tree;
-          notes = p .notes;
-          tree-long = p .tree-long;
-          notes-long = p .notes-long;
-          rows = p .rows;
-          dropped = p .dropped;
-          token = p .token;
-          read = p .read;
-          light = p .light;
-        };
-        ready = record {
-          steady = record {
-            good = y .good;
-            fine = y .fine;
-            token = y .token;
-            fits = y .fits;
-            start = first;
-            last = last;
-            dropped = y .dropped;
-            notes = y .notes;
-            light = y .light;
-          };
-          within = w .ready .within;
-        };
-        depth = w .depth;
-        few = w .few;
-        home = stays-home lift s u (relisted u l) refl refl (w .home);
-        scope-is = refl;
-      })
+  abbrev changed : ℕ → ListState → Parser
+  changed held l = record { lexer = u .lexer; held = held; list = l; builder = u .builder; dropped = u .dropped }
 
-  -- the code took other marks, in a list of the same scope
-  pub remarks : {z : Parser} (start last : KeptMark) → z ≡ remarked u start last → MarkOk start (u .builder) → MarkOk last (u .builder)
-      → Goes (remarked u start last) → Walk t rule rest gain lift scope s m z v
-  remarks start last e first second is =
-      rw (w .scope-is) at (relists (record { scope = u .list .scope; start = start; last = last }) e first second is)
-
-  -- nothing is held any more
-  pub unholds : {z : Parser} → z ≡ unheld u → Goes (unheld u) → Walk t rule rest gain lift scope s m z v
-  unholds e is =
+  -- the code took another list or holds less, and no more is to be written for it
+  changes : {to : ℕ} (held : ℕ) (l : ListState) → l .scope ≡ to → weight t (changed held l) ≤ weight t u
+      → MarkOk (l .start) (u .builder) → MarkOk (l .last) (u .builder) → Goes (changed held l) → Walk t rule rest gain lift to s m (changed held l) v
+  changes held l same weighs first last is =
       let p = w .passed in
       let y = w .ready .steady in
       let lighter = p .light in
       let light = y .light in
-      rw e
-      (record {
-        is = stepped (unheld u) is;
+      record {
+        is = stepped (changed held l) is;
         passed = record {
           tree = p .tree;
           notes = p .notes;
@@ -120,8 +77,8 @@ module _ {t : Tables} {rule f : Rule} {rest : List Rule} {gain lift : ℕ} {scop
             fine = y .fine;
             token = y .token;
             fits = y .fits;
-            start = y .start;
-            last = y .last;
+            start = first;
+            last = last;
             dropped = y .dropped;
             notes = y .notes;
             light = omega arith;
@@ -130,9 +87,26 @@ module _ {t : Tables} {rule f : Rule} {rest : List Rule} {gain lift : ℕ} {scop
         };
         depth = w .depth;
         few = w .few;
-        home = stays-home lift s u (unheld u) refl refl (w .home);
-        scope-is = w .scope-is;
-      })
+        home = stays-home lift s u (changed held l) refl refl (w .home);
+        scope-is = same;
+      }
+
+  -- the code took another list
+  pub relists : {z : Parser} (l : ListState) → z ≡ relisted u l → MarkOk (l .start) (u .builder) → MarkOk (l .last) (u .builder) → Goes (relisted u l)
+      → Walk t rule rest gain lift (l .scope) s m z v
+  relists l e first last is = rw e (changes (u .held) l refl (omega arith) first last is)
+
+  -- the code took other marks, in a list of the same scope
+  pub remarks : {z : Parser} (start last : KeptMark) → z ≡ remarked u start last → MarkOk start (u .builder) → MarkOk last (u .builder)
+      → Goes (remarked u start last) → Walk t rule rest gain lift scope s m z v
+  remarks start last e first second is =
+      rw (w .scope-is) at (relists (record { scope = u .list .scope; start = start; last = last }) e first second is)
+
+  -- nothing is held any more
+  pub unholds : {z : Parser} → z ≡ unheld u → Goes (unheld u) → Walk t rule rest gain lift scope s m z v
+  unholds e is =
+      let y = w .ready .steady in
+      rw e (changes (u .lexer .token) (u .list) (w .scope-is) (omega arith) (y .start) (y .last) is)
 
 -- ---- a member that hands on to one routine alone
 
