@@ -50,7 +50,9 @@ impl Shape {
     // The shape of a token: shape number 0 is none, k the k-th row.
     pub fn of_token(tokens: &[u32], shapes: &[u32], token: usize) -> Self
         requires { ⌜ (token < tokenCount (now tokens)) × (shapeAt (now tokens) token ≤ length (now shapes) / shapeWidth) ⌝ }
-        ensures { λ r. ⌜ ((text states : List ℕ) → shapeFor r ≡ shapeOf (record { text = text; tokens = now (tokens .entry); shapes = now (shapes .entry); states = states }) token) ⌝ }
+        ensures { λ r. ⌜
+            ((text states : List ℕ)
+            → shapeFor r ≡ shapeOf (record { text = text; tokens = now (tokens .entry); shapes = now (shapes .entry); states = states }) token) ⌝ }
     {
         let number = cell(tokens, token, Column::SHAPE) as usize;
         if number == 0 {

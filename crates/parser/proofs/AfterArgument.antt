@@ -5,6 +5,7 @@ use mathlib.Core.List.{List, [], _∷_}
 use Prim.Native.Nat.{ℕ}
 use native.Mathlib.Omega.{arith}
 use lib.ListN.{length}
+use Rattle.rules.specs.Builder.{Leaf}
 use Rattle.rules.specs.Characters.{charLength}
 use Rattle.rules.specs.Checks.{Tables, sourceOf}
 use Rattle.rules.specs.Cursor.{Cursor, peekText, restStart, consumed}
@@ -32,7 +33,8 @@ Always P (went q) = P q
 Always P (refused number place) = Unit {0}
 
 -- a step, and then the others
-then-steps : (P Q : Here → Type 0) (f : Here → Out Here) (rest : List (Here → Out Here)) (q : Here) → Always P (f q) → ((y : Here) → P y → Always Q (steps rest y)) → Always Q (steps (f ∷ rest) q)
+then-steps : (P Q : Here → Type 0) (f : Here → Out Here) (rest : List (Here → Out Here)) (q : Here)
+    → Always P (f q) → ((y : Here) → P y → Always Q (steps rest y)) → Always Q (steps (f ∷ rest) q)
 unfolding steps
 then-steps P Q f rest q h k = on (f q) h
   where
@@ -41,7 +43,8 @@ then-steps P Q f rest q h k = on (f q) h
     on (refused number place) h = tt
 
 -- whatever the step left
-last-steps : (Q : Here → Type 0) (f : Here → Out Here) (rest : List (Here → Out Here)) (q : Here) → ((y : Here) → Always Q (steps rest y)) → Always Q (steps (f ∷ rest) q)
+last-steps : (Q : Here → Type 0) (f : Here → Out Here) (rest : List (Here → Out Here)) (q : Here)
+    → ((y : Here) → Always Q (steps rest y)) → Always Q (steps (f ∷ rest) q)
 last-steps Q f rest q k = then-steps (λ y. Unit {0}) Q f rest q (any (f q)) (λ y h. k y)
   where
     any : (o : Out Here) → Always (λ y. Unit {0}) o
@@ -82,14 +85,20 @@ module _ (n : ℕ) (s : Source) (inner : Bool → Rule (flat n)) where
   abbrev behind-one : Cursor → Cursor
   behind-one c = consumed (s .tokens) (charLength (peekText (s .text) (s .tokens) c)) c
 
+  -- its bytes, and its leaf
+  abbrev size-at : Here → ℕ
+  size-at p = charLength (peekText (s .text) (s .tokens) (p .lexer))
+
+  abbrev leaf-of : Here → Leaf
+  leaf-of p = record { token = p .lexer .token; kind = TokenWord; start = restStart (s .tokens) (p .lexer); size = size-at p }
+
   one-character : (c : Cursor) (p : Here) → p .lexer ≡ c → Always (λ y. y .lexer ≡ behind-one c) (singleChar (flat n) s p)
   unfolding singleChar
-  one-character c p e =
-      moved (flat n .leaf (p .lexer .token) (record { token = p .lexer .token; kind = TokenWord; start = restStart (s .tokens) (p .lexer); size = charLength (peekText (s .text) (s .tokens) (p .lexer)) }) (p .built))
+  one-character c p e = moved (flat n .leaf (p .lexer .token) (leaf-of p) (p .built))
     where
       moved : (o : Out Built)
           → Always (λ y. y .lexer ≡ behind-one c)
-          (bind (building (flat n) p o) (λ q. went (position.withLexer (flat n) (consumed (s .tokens) (charLength (peekText (s .text) (s .tokens) (p .lexer))) (q .lexer)) q)))
+          (bind (building (flat n) p o) (λ q. went (position.withLexer (flat n) (consumed (s .tokens) (size-at p) (q .lexer)) q)))
       moved (went b) = ap behind-one e
       moved (refused number place) = tt
 
@@ -136,5 +145,8 @@ module _ {t : Tables} {gain : ℕ} (what : Piece) {q : Parser} {v : Buffers} {r 
 
 module _ {t : Tables} {gain : ℕ} {q : Parser} {v : Buffers} {r : Step} {x : Buffers} {z : Parser}
     (read : Runs t gain (λ n d. spec.argument (flat n) (sourceOf t) (innerAt t n d) character (posOf q v)) q v r x) (e : r ≡ Went z) where
-  pub character-behind : cursorOf (z .lexer) ≡ consumed (t .tokens) (charLength (peekText (t .text) (t .tokens) (cursorOf (q .lexer)))) (cursorOf (q .lexer))
-  character-behind = told character read e (λ y. y .lexer ≡ consumed (t .tokens) (charLength (peekText (t .text) (t .tokens) (cursorOf (q .lexer)))) (cursorOf (q .lexer))) (λ n d. passes-one n (sourceOf t) (innerAt t n d) (posOf q v))
+  abbrev behind-it : Cursor
+  behind-it = consumed (t .tokens) (charLength (peekText (t .text) (t .tokens) (cursorOf (q .lexer)))) (cursorOf (q .lexer))
+
+  pub character-behind : cursorOf (z .lexer) ≡ behind-it
+  character-behind = told character read e (λ y. y .lexer ≡ behind-it) (λ n d. passes-one n (sourceOf t) (innerAt t n d) (posOf q v))

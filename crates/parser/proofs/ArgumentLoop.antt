@@ -1,5 +1,5 @@
--- The loop of arguments: its invariant is the walk so far, with turns enough for what is left to read. A turn ends, holds a token, or reads an argument.
--- Assumes nothing.
+-- The loop of arguments: its invariant is the walk so far, with turns enough for what is left to read. A turn ends, holds a token, or reads an
+-- argument. Assumes nothing.
 use mathlib.Core.Path.{_≡_, refl, sym, _∙_}
 use mathlib.Core.List.{List, [], _∷_}
 use mathlib.Core.Option.{none, some}
@@ -52,17 +52,23 @@ module _ (t : Tables) (p : Parser) (first : Matcher) (b : Buffers) where
 
   pub arguments-begin : Ready t p b → Holding p → Far p first b
   arguments-begin ready holding =
-      record { fuel = leftOf t p; enough = omega arith; walk = begins ready (λ n d. sym (last-step (more (leftOf t p) first) n d (posOf p b))); holding = holding }
+      record {
+        fuel = leftOf t p;
+        enough = omega arith;
+        walk = begins ready (λ n d. sym (last-step (more (leftOf t p) first) n d (posOf p b)));
+        holding = holding;
+      }
 
   module _ {q : Parser} {m : Matcher} {v : Buffers} (far : Far q m v) where
     -- what the rule chooses here
-    abbrev Chosen : Choice → Type 0
+    abbrev pub Chosen : Choice → Type 0
     Chosen c = (n d : ℕ) → spec.choiceAt (flat n) (sourceOf t) (innerAt t n d) m (posOf q v) ≡ c
 
     pub at-end : peek (t .tokens) (cursorOf (q .lexer)) ≡ none → Chosen ends
     at-end e n d = rw e
 
-    pub by-kind : {kind : ℕ} {c : Choice} → peek (t .tokens) (cursorOf (q .lexer)) ≡ some kind → choose (t .states) (scopeAt (q .list .scope)) m kind ≡ c → Chosen c
+    pub by-kind : {kind : ℕ} {c : Choice} → peek (t .tokens) (cursorOf (q .lexer)) ≡ some kind
+        → choose (t .states) (scopeAt (q .list .scope)) m kind ≡ c → Chosen c
     by-kind e chosen n d = rw e chosen
 
     -- ---- they end
@@ -85,20 +91,27 @@ module _ (t : Tables) (p : Parser) (first : Matcher) (b : Buffers) where
         enough : leftOf t q ≤ suc fuel
         walk : Way (steps fuel) q v
 
-      turn-of : (steps : ℕ → List Rule) → ((fuel n d : ℕ) → more (suc fuel) m n d (posOf q v) ≡ line (steps fuel) n d (posOf q v)) → (fuel : ℕ) → leftOf t q ≤ fuel → Way (more fuel m ∷ []) q v → Turn steps
+      -- these are the steps of a turn
+      abbrev Unrolled : (ℕ → List Rule) → Type 0
+      Unrolled steps = (fuel n d : ℕ) → more (suc fuel) m n d (posOf q v) ≡ line (steps fuel) n d (posOf q v)
+
+      turn-of : (steps : ℕ → List Rule) → Unrolled steps → (fuel : ℕ) → leftOf t q ≤ fuel → Way (more fuel m ∷ []) q v → Turn steps
       turn-of steps is zero enough w = let some = left-some (w .ready .steady .fine) there in absurd (omega arith)
       turn-of steps is (suc fuel) enough w =
           record { fuel = fuel; enough = enough; walk = turns w (λ n d. last-step (more (suc fuel) m) n d (posOf q v) ∙ is fuel n d) }
 
-      turn : (steps : ℕ → List Rule) → ((fuel n d : ℕ) → more (suc fuel) m n d (posOf q v) ≡ line (steps fuel) n d (posOf q v)) → Turn steps
+      turn : (steps : ℕ → List Rule) → Unrolled steps → Turn steps
       turn steps is = turn-of steps is (far .fuel) (far .enough) (far .walk)
 
       -- ---- a token is held
 
       module _ (chosen : Chosen holds) where
-        holding-turn : Turn (λ fuel. (λ n d u. went (holdTrivia (flat n) (sourceOf t) u)) ∷ more fuel m ∷ [])
+        abbrev holding-one : Rule
+        holding-one n d u = went (holdTrivia (flat n) (sourceOf t) u)
+
+        holding-turn : Turn (λ fuel. holding-one ∷ more fuel m ∷ [])
         unfolding spec.arguments
-        holding-turn = turn _ (λ fuel n d. rw (chosen n d) (sym (two-steps (λ n d u. went (holdTrivia (flat n) (sourceOf t) u)) (more fuel m) n d (posOf q v))))
+        holding-turn = turn _ (λ fuel n d. rw (chosen n d) (sym (two-steps holding-one (more fuel m) n d (posOf q v))))
 
         module _ {z : Parser} (e : z ≡ relexed q (record { token = q .lexer .token + 1; taken = 0 })) where
           held-one : Left t 1 q v z v
@@ -106,7 +119,12 @@ module _ (t : Tables) (p : Parser) (first : Matcher) (b : Buffers) where
 
           pub arguments-hold : Far z m v
           arguments-hold =
-              record { fuel = holding-turn .fuel; enough = enough-left; walk = forgets (passes (holding-turn .walk) (held.holds there e) refl); holding = rw e (held.holding-more (far .holding)) }
+              record {
+                fuel = holding-turn .fuel;
+                enough = enough-left;
+                walk = forgets (passes (holding-turn .walk) (held.holds there e) refl);
+                holding = rw e (held.holding-more (far .holding));
+              }
             where
               enough-left : leftOf t z ≤ holding-turn .fuel
               enough-left = let read = held-one .passed .read in let enough = holding-turn .enough in omega arith
@@ -131,7 +149,12 @@ module _ (t : Tables) (p : Parser) (first : Matcher) (b : Buffers) where
 
             pub arguments-take : Far z next x
             arguments-take =
-                record { fuel = taking-turn .fuel; enough = enough-left; walk = forgets (passes (taking-turn .walk) (runs read) e); holding = holding-behind what read e (took-one .ready) }
+                record {
+                  fuel = taking-turn .fuel;
+                  enough = enough-left;
+                  walk = forgets (passes (taking-turn .walk) (runs read) e);
+                  holding = holding-behind what read e (took-one .ready);
+                }
               where
                 enough-left : leftOf t z ≤ taking-turn .fuel
                 enough-left = let less = took-one .passed .read in let enough = taking-turn .enough in omega arith

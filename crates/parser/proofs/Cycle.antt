@@ -1,15 +1,15 @@
--- The walk in the cycle: calls of members at the caller's level and below it, a node that is ended on the way, and steps that change the list or what is held alone. Assumes nothing.
-use mathlib.Core.Path.{_≡_, refl, ap, _∙_}
-use mathlib.Core.List.{List, [], _∷_, _++_}
+-- The walk in the cycle: calls of members at the caller's level and below it, and steps that change the list or what is held alone. Assumes nothing.
+use mathlib.Core.Path.{_≡_, refl, _∙_}
+use mathlib.Core.List.{List, _∷_}
 use Prim.Native.Nat.{ℕ, zero, suc, _+_, _≤_}
 use native.Mathlib.Omega.{arith}
 use lib.ListN.{length}
 use Rattle.rules.specs.Limits.{nodes}
-use Rattle.rules.specs.Outcome.{Out, went, refused, bind}
+use Rattle.rules.specs.Outcome.{Out, went}
 use Rattle.rules.specs.Checks.{Tables, sourceOf}
 use Rattle.routines.specs.Stands.{Buffers, Here, posOf, outOf}
 use Rattle.routines.specs.Change.{relisted, remarked, unheld}
-use Rattle.routines.specs.Contract.{MarkOk, Ready, Left, Ended, Gone, Runs, Ran, RuleOf}
+use Rattle.routines.specs.Contract.{MarkOk, Ready, Left, Gone, Runs, Ran, RuleOf, weight}
 use Rattle.routines.specs.declared.state.ListState.{ListState}
 use Rattle.routines.specs.declared.state.KeptMark.{KeptMark}
 use Rattle.routines.specs.declared.state.Parser.{Parser}
@@ -20,112 +20,125 @@ use Rattle.routines.proofs.Walk.{Rule, line, Walk, Call, stays-home, weaker}
 -- ---- calls
 
 -- a member at the caller's level
-pub runs : {t : Tables} {gain lift : ℕ} {f : Rule} {u : Parser} {v : Buffers} {r : Step} {x : Buffers} → Runs t gain (λ n d. f n d (posOf u v)) u v r x → Call t f lift (λ q. Left t gain u v q x) u v r x
+pub runs : {t : Tables} {gain lift : ℕ} {f : Rule} {u : Parser} {v : Buffers} {r : Step} {x : Buffers}
+    → Runs t gain (λ n d. f n d (posOf u v)) u v r x → Call t f lift (λ q. Left t gain u v q x) u v r x
 runs k = record { is = λ ready d h. k .is d (omega arith); gone = λ ready. k .gone }
 
 -- a member that reads items in a node that the caller opened: a level less
-pub below : {t : Tables} {gain lift : ℕ} {f : Rule} {u : Parser} {v : Buffers} {r : Step} {x : Buffers} → u .builder .depth ≤ nodes → Runs t gain (λ n d. f n (suc d) (posOf u v)) u v r x
-    → Call t f (suc lift) (λ q. Left t gain u v q x) u v r x
+pub below : {t : Tables} {gain lift : ℕ} {f : Rule} {u : Parser} {v : Buffers} {r : Step} {x : Buffers} → u .builder .depth ≤ nodes
+    → Runs t gain (λ n d. f n (suc d) (posOf u v)) u v r x → Call t f (suc lift) (λ q. Left t gain u v q x) u v r x
 below {lift = lift} {f} {u} {v} {r} {x} deep k = record { is = λ ready d h. one-less d h; gone = λ ready. k .gone }
   where
     one-less : (d : ℕ) → nodes + suc lift ≤ u .builder .depth + d → f (length (v .tree)) d (posOf u v) ≡ outOf r x
     one-less zero h = absurd (omega arith)
     one-less (suc e) h = k .is e (omega arith)
 
--- ---- steps inside a step
-
-bind-bind : (o : Out Here) (f g : Here → Out Here) → bind (bind o f) g ≡ bind o (λ q. bind (f q) g)
-bind-bind (went q) f g = refl
-bind-bind (refused number place) f g = refl
-
-same-after : (o : Out Here) (f g : Here → Out Here) → ((q : Here) → f q ≡ g q) → bind o f ≡ bind o g
-same-after (went q) f g h = h q
-same-after (refused number place) f g h = refl
-
--- a rule that is steps itself stands for them
-pub unnested : (inner rest : List Rule) (n d : ℕ) (q : Here) → line (line inner ∷ rest) n d q ≡ line (inner ++ rest) n d q
-unfolding line
-unnested [] rest n d q = refl
-unnested (f ∷ inner) rest n d q = bind-bind (f n d q) (line inner n d) (line rest n d) ∙ same-after (f n d q) _ _ (unnested inner rest n d)
-
--- a step, and then a rule that is steps itself
-pub opened : (f : Rule) (inner rest : List Rule) (n d : ℕ) (q : Here) → line (f ∷ line inner ∷ rest) n d q ≡ line (f ∷ (inner ++ rest)) n d q
-unfolding line
-opened f inner rest n d q = same-after (f n d q) _ _ (unnested inner rest n d)
-
 -- ---- steps that call nothing
 
-module _ {t : Tables} {rule f : Rule} {rest : List Rule} {gain lift : ℕ} {scope : ℕ} {s : Parser} {m : Buffers} {u : Parser} {v : Buffers} (w : Walk t rule (f ∷ rest) gain lift scope s m u v) where
+module _ {t : Tables} {rule f : Rule} {rest : List Rule} {gain lift : ℕ} {scope : ℕ} {s : Parser} {m : Buffers} {u : Parser} {v : Buffers}
+    (w : Walk t rule (f ∷ rest) gain lift scope s m u v) where
+  -- the rule's step goes to z
+  abbrev Goes : Parser → Type 0
+  Goes z = (n d : ℕ) → f n d (posOf u v) ≡ went (posOf z v)
+
   -- what is left once such a step is made
-  stepped : (z : Parser) → ((n d : ℕ) → f n d (posOf u v) ≡ went (posOf z v)) → (d : ℕ) → nodes ≤ s .builder .depth + d → rule (length (m .tree)) d (posOf s m) ≡ line rest (length (m .tree)) d (posOf z v)
+  stepped : (z : Parser) → Goes z → (d : ℕ) → nodes ≤ s .builder .depth + d
+      → rule (length (m .tree)) d (posOf s m) ≡ line rest (length (m .tree)) d (posOf z v)
   unfolding line
   stepped z is d h = w .is d h ∙ rw (is (length (m .tree)) d)
 
-  -- the code took another list
-  pub relists : {z : Parser} (l : ListState) → z ≡ relisted u l → MarkOk (l .start) (u .builder) → MarkOk (l .last) (u .builder) → ((n d : ℕ) → f n d (posOf u v) ≡ went (posOf (relisted u l) v))
-      → Walk t rule rest gain lift (l .scope) s m z v
-  relists l e first last is =
-      let p = w .passed in
-      let y = w .ready .steady in
-      rw e
-      (record {
-        is = stepped (relisted u l) is;
-        passed = record { tree = p .tree; notes = p .notes; tree-long = p .tree-long; notes-long = p .notes-long; rows = p .rows; dropped = p .dropped; token = p .token; read = p .read; light = p .light };
-        ready = record {
-          steady = record { good = y .good; fine = y .fine; token = y .token; fits = y .fits; start = first; last = last; dropped = y .dropped; notes = y .notes; light = y .light };
-          within = w .ready .within;
-        };
-        depth = w .depth;
-        few = w .few;
-        home = stays-home lift s u (relisted u l) refl refl (w .home);
-        scope-is = refl;
-      })
+  abbrev changed : ℕ → ListState → Parser
+  changed held l = record { lexer = u .lexer; held = held; list = l; builder = u .builder; dropped = u .dropped }
 
-  -- the code took other marks, in a list of the same scope
-  pub remarks : {z : Parser} (start last : KeptMark) → z ≡ remarked u start last → MarkOk start (u .builder) → MarkOk last (u .builder) → ((n d : ℕ) → f n d (posOf u v) ≡ went (posOf (remarked u start last) v))
-      → Walk t rule rest gain lift scope s m z v
-  remarks start last e first second is = rw (w .scope-is) at (relists (record { scope = u .list .scope; start = start; last = last }) e first second is)
-
-  -- nothing is held any more
-  pub unholds : {z : Parser} → z ≡ unheld u → ((n d : ℕ) → f n d (posOf u v) ≡ went (posOf (unheld u) v)) → Walk t rule rest gain lift scope s m z v
-  unholds e is =
+  -- the code took another list or holds less, and no more is to be written for it
+  changes : {to : ℕ} (held : ℕ) (l : ListState) → l .scope ≡ to → weight t (changed held l) ≤ weight t u
+      → MarkOk (l .start) (u .builder) → MarkOk (l .last) (u .builder) → Goes (changed held l) → Walk t rule rest gain lift to s m (changed held l) v
+  changes held l same weighs first last is =
       let p = w .passed in
       let y = w .ready .steady in
       let lighter = p .light in
       let light = y .light in
-      rw e
-      (record {
-        is = stepped (unheld u) is;
-        passed = record { tree = p .tree; notes = p .notes; tree-long = p .tree-long; notes-long = p .notes-long; rows = p .rows; dropped = p .dropped; token = p .token; read = p .read; light = omega arith };
+      record {
+        is = stepped (changed held l) is;
+        passed = record {
+          tree = p .tree;
+          notes = p .notes;
+          tree-long = p .tree-long;
+          notes-long = p .notes-long;
+          rows = p .rows;
+          dropped = p .dropped;
+          token = p .token;
+          read = p .read;
+          light = omega arith;
+        };
         ready = record {
-          steady = record { good = y .good; fine = y .fine; token = y .token; fits = y .fits; start = y .start; last = y .last; dropped = y .dropped; notes = y .notes; light = omega arith };
+          steady = record {
+            good = y .good;
+            fine = y .fine;
+            token = y .token;
+            fits = y .fits;
+            start = first;
+            last = last;
+            dropped = y .dropped;
+            notes = y .notes;
+            light = omega arith;
+          };
           within = w .ready .within;
         };
         depth = w .depth;
         few = w .few;
-        home = stays-home lift s u (unheld u) refl refl (w .home);
-        scope-is = w .scope-is;
-      })
+        home = stays-home lift s u (changed held l) refl refl (w .home);
+        scope-is = same;
+      }
+
+  -- the code took another list
+  pub relists : {z : Parser} (l : ListState) → z ≡ relisted u l → MarkOk (l .start) (u .builder) → MarkOk (l .last) (u .builder) → Goes (relisted u l)
+      → Walk t rule rest gain lift (l .scope) s m z v
+  relists l e first last is = rw e (changes (u .held) l refl (omega arith) first last is)
+
+  -- the code took other marks, in a list of the same scope
+  pub remarks : {z : Parser} (start last : KeptMark) → z ≡ remarked u start last → MarkOk start (u .builder) → MarkOk last (u .builder)
+      → Goes (remarked u start last) → Walk t rule rest gain lift scope s m z v
+  remarks start last e first second is =
+      rw (w .scope-is) at (relists (record { scope = u .list .scope; start = start; last = last }) e first second is)
+
+  -- nothing is held any more
+  pub unholds : {z : Parser} → z ≡ unheld u → Goes (unheld u) → Walk t rule rest gain lift scope s m z v
+  unholds e is =
+      let y = w .ready .steady in
+      rw e (changes (u .lexer .token) (u .list) (w .scope-is) (omega arith) (y .start) (y .last) is)
 
 -- ---- a member that hands on to one routine alone
 
 -- the same by another rule that comes to the same
-pub runs-as : {t : Tables} {gain : ℕ} {want other : ℕ → ℕ → Out Here} {p : Parser} {m : Buffers} {r : Step} {v : Buffers} → Runs t gain want p m r v → ((n d : ℕ) → other n d ≡ want n d) → Runs t gain other p m r v
+pub runs-as : {t : Tables} {gain : ℕ} {want other : ℕ → ℕ → Out Here} {p : Parser} {m : Buffers} {r : Step} {v : Buffers}
+    → Runs t gain want p m r v → ((n d : ℕ) → other n d ≡ want n d) → Runs t gain other p m r v
 runs-as {m = m} k same = record { is = λ d h. same (length (m .tree)) d ∙ k .is d h; gone = k .gone }
 
 -- a routine outside the cycle
-pub ran-runs : {t : Tables} {sees : Tables → Type 0} {gain : ℕ} {rule : RuleOf} {p : Parser} {m : Buffers} {r : Step} {v : Buffers} → sees t → Ready t p m → Ran sees gain rule p m r v
-    → Runs t gain (λ n d. rule (sourceOf t) n (posOf p m)) p m r v
+pub ran-runs : {t : Tables} {sees : Tables → Type 0} {gain : ℕ} {rule : RuleOf} {p : Parser} {m : Buffers} {r : Step} {v : Buffers}
+    → sees t → Ready t p m → Ran sees gain rule p m r v → Runs t gain (λ n d. rule (sourceOf t) n (posOf p m)) p m r v
 ran-runs {t} seen ready k = record { is = λ d h. k .told t seen ready .is; gone = k .told t seen ready .gone }
 
 -- a member that opens a node, called where another level is left
-pub above : {t : Tables} {gain : ℕ} {want : ℕ → ℕ → Out Here} {p : Parser} {m : Buffers} {r : Step} {v : Buffers} → Runs t gain want p m r v → Runs t gain (λ n d. want n (suc d)) p m r v
+pub above : {t : Tables} {gain : ℕ} {want : ℕ → ℕ → Out Here} {p : Parser} {m : Buffers} {r : Step} {v : Buffers}
+    → Runs t gain want p m r v → Runs t gain (λ n d. want n (suc d)) p m r v
 above k = record { is = λ d h. k .is (suc d) (omega arith); gone = k .gone }
 
 -- a member that promises less of what it reads than its callee
-gone-less : (t : Tables) (gain less : ℕ) (p : Parser) (m v : Buffers) → less ≤ gain → (r : Step) → Gone (λ q. Left t gain p m q v) r → Gone (λ q. Left t less p m q v) r
-gone-less t gain less p m v h (Went q) k = record { passed = weaker less h (k .passed); ready = k .ready; depth = k .depth; first = k .first; node = k .node; scope = k .scope }
+gone-less : (t : Tables) (gain less : ℕ) (p : Parser) (m v : Buffers) → less ≤ gain → (r : Step)
+    → Gone (λ q. Left t gain p m q v) r → Gone (λ q. Left t less p m q v) r
+gone-less t gain less p m v h (Went q) k =
+    record {
+      passed = weaker less h (k .passed);
+      ready = k .ready;
+      depth = k .depth;
+      first = k .first;
+      node = k .node;
+      scope = k .scope;
+    }
 gone-less t gain less p m v h (Refused number place) k = tt
 
-pub read-less : {t : Tables} {gain less : ℕ} {want : ℕ → ℕ → Out Here} {p : Parser} {m : Buffers} {r : Step} {v : Buffers} → less ≤ gain → Runs t gain want p m r v → Runs t less want p m r v
+pub read-less : {t : Tables} {gain less : ℕ} {want : ℕ → ℕ → Out Here} {p : Parser} {m : Buffers} {r : Step} {v : Buffers}
+    → less ≤ gain → Runs t gain want p m r v → Runs t less want p m r v
 read-less {t} {gain} {less} {p = p} {m} {r} {v} h k = record { is = k .is; gone = gone-less t gain less p m v h r (k .gone) }

@@ -7,5 +7,6 @@ use Rattle.routines.specs.declared.state.Parser.{Parser}
 use Rattle.parser.specs.Member.{buffers}
 
 -- the tables and the dropped buffer are the member's own
-pub somehow : {sees : Tables → Type 0} {t : Tables} {p : Parser} {tree dropped : List ℕ} → sees t → Ready t p (buffers tree dropped) → Somehow sees p tree
+pub somehow : {sees : Tables → Type 0} {t : Tables} {p : Parser} {tree dropped : List ℕ}
+    → sees t → Ready t p (buffers tree dropped) → Somehow sees p tree
 somehow {t = t} {dropped = dropped} seen ready = record { t = t; notes = dropped; seen = seen; ready = ready }

@@ -1,12 +1,12 @@
 -- What an extent reads, from what its loop reads: a list of its own is taken before the first item, and the parent's marks are given back behind the
 -- last. Assumes nothing.
-use mathlib.Core.Path.{_≡_, refl, sym}
+use mathlib.Core.Path.{_≡_, refl}
 use mathlib.Core.Bool.{Bool, true, false}
 use mathlib.Core.List.{[], _∷_}
-use mathlib.Core.Option.{Option, none, some}
+use mathlib.Core.Option.{none, some}
 use Prim.Native.Nat.{ℕ}
 use Rattle.rules.specs.Checks.{Tables, sourceOf}
-use Rattle.rules.specs.Flat.{flat, Mark}
+use Rattle.rules.specs.Flat.{flat}
 use Rattle.rules.specs.Outcome.{went}
 use Rattle.rules.specs.Position.{steps, withList, withMarks}
 use Rattle.rules.specs.Reading as spec
@@ -15,7 +15,7 @@ use Rattle.syntax.specs.ParseScope.{numberOf, scopeOf}
 use Rattle.syntax.specs.declared.parse_scope.ParseScope.{ParseScope}
 use Rattle.routines.specs.Change.{relisted}
 use Rattle.routines.specs.Contract.{MarkOk, Ready, Runs}
-use Rattle.routines.specs.Stands.{Buffers, Here, noMark, markOf, listOf, posOf, keptOf, markIn}
+use Rattle.routines.specs.Stands.{Buffers, noMark, markOf, listOf, posOf, keptOf, markIn}
 use Rattle.routines.specs.declared.state.ListState.{ListState}
 use Rattle.routines.specs.declared.state.Parser.{Parser}
 use Rattle.routines.specs.declared.state.Step.{Step}
@@ -27,13 +27,14 @@ use Rattle.parser.specs.declared.lists.Extent.{Extent}
 use Rattle.parser.specs.declared.lists.Extent.the-variants.{List as Scoped, Greedy, Item as OneItem}
 use Rattle.routines.proofs.Marks.{no-mark, taken-ok, kept-again}
 use Rattle.parser.proofs.ItemLoop.{body}
-use Rattle.parser.proofs.Cycle.{runs, relists, unnested}
+use Rattle.parser.proofs.Cycle.{runs, relists}
 use Rattle.parser.proofs.Marks.{mark-here, is-mark}
 
 -- ---- a list of its own
 
 -- the same scope by another name
-rescoped : {t : Tables} {rule : Rule} {p : Parser} {m : Buffers} {q : Parser} {x : Buffers} {scope other : ℕ} → scope ≡ other → Walk t rule [] 0 0 scope p m q x → Walk t rule [] 0 0 other p m q x
+rescoped : {t : Tables} {rule : Rule} {p : Parser} {m : Buffers} {q : Parser} {x : Buffers} {scope other : ℕ}
+    → scope ≡ other → Walk t rule [] 0 0 scope p m q x → Walk t rule [] 0 0 other p m q x
 rescoped same w = rw (← same) w
 
 -- a rule of three steps: a list is taken, its items are read, another list is given back
@@ -50,7 +51,11 @@ module _ {t : Tables} {greedy : Bool} {p : Parser} {m : Buffers} {rule : Rule} (
   taken : Walk t rule (body t greedy ∷ own .giving ∷ []) 0 0 (own .list .scope) p m (relisted p (own .list)) m
   taken = relists (begins ready (own .is)) (own .list) refl (own .start) (own .last) (own .taking-is)
 
-  module _ {r : Step} {x : Buffers} (read : Runs t 0 (λ n d. body t greedy n d (posOf (relisted p (own .list)) m)) (relisted p (own .list)) m r x) where
+  -- where its items are read
+  abbrev begun : Parser
+  begun = relisted p (own .list)
+
+  module _ {r : Step} {x : Buffers} (read : Runs t 0 (λ n d. body t greedy n d (posOf begun m)) begun m r x) where
     own-stops : Stopped r → Runs t 0 (λ n d. rule n d (posOf p m)) p m r x
     own-stops st = stops taken (runs read) st
 
@@ -58,11 +63,14 @@ module _ {t : Tables} {greedy : Bool} {p : Parser} {m : Buffers} {rule : Rule} (
       read-all : Walk t rule (own .giving ∷ []) 0 0 (own .list .scope) p m q x
       read-all = passes taken (runs read) e
 
-      own-closes : (back : ListState) → back .scope ≡ p .list .scope → MarkOk (back .start) (p .builder) → MarkOk (back .last) (p .builder) → ((n d : ℕ) → own .giving n d (posOf q x) ≡ went (posOf (relisted q back) x))
+      own-closes : (back : ListState) → back .scope ≡ p .list .scope → MarkOk (back .start) (p .builder) → MarkOk (back .last) (p .builder)
+          → ((n d : ℕ) → own .giving n d (posOf q x) ≡ went (posOf (relisted q back) x))
           → Runs t 0 (λ n d. rule n d (posOf p m)) p m (Went (relisted q back)) x
       own-closes back same start last giving-is =
           let rows = read-all .passed .rows in
-          arrives (rescoped same (relists read-all back refl (mark-more (back .start) (p .builder) (q .builder) rows start) (mark-more (back .last) (p .builder) (q .builder) rows last) giving-is))
+          let start-there = mark-more (back .start) (p .builder) (q .builder) rows start in
+          let last-there = mark-more (back .last) (p .builder) (q .builder) rows last in
+          arrives (rescoped same (relists read-all back refl start-there last-there giving-is))
 
 -- ---- as far as an extent goes
 
@@ -148,9 +156,11 @@ module _ {t : Tables} {p : Parser} {m : Buffers} (ready : Ready t p m) where
         own-closes ready (list-own scope) read went-on (p .list) refl (ready .steady .start) (ready .steady .last) (λ n d. refl)
     closes-at q went-on Greedy read =
         own-closes ready greedy-own read went-on
-        (record { scope = q .list .scope; start = keptOf (markIn (p .list .start)); last = noMark }) (read-all ready greedy-own read went-on .scope-is)
+        (record { scope = q .list .scope; start = keptOf (markIn (p .list .start)); last = noMark })
+        (read-all ready greedy-own read went-on .scope-is)
         (taken-ok (p .list .start) (p .builder) (ready .steady .start)) (no-mark (p .builder)) (λ n d. rw (kept-again (p .list .start)) refl)
     closes-at q went-on OneItem read = rw went-on at read
 
-    pub inside-closes : (q : Parser) → r ≡ Went q → (e : Extent) {begun : Parser} → begun ≡ opened e p → Looped e begun r x → Read e (Went (closed e p q)) x
+    pub inside-closes : (q : Parser) → r ≡ Went q → (e : Extent) {begun : Parser} → begun ≡ opened e p
+        → Looped e begun r x → Read e (Went (closed e p q)) x
     inside-closes q went-on e is read = closes-at q went-on e (rw is at read)

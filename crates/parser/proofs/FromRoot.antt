@@ -75,15 +75,17 @@ roots {t} {f} {rest} {s} {m} {r} {x} {z} steady k e =
     }
 
 -- the last step, whatever it comes to
-last-is : {t : Tables} {rule f : Rule} {gain : ℕ} {scope : ℕ} {s : Parser} {m : Buffers} {u : Parser} {v : Buffers} {Q : Parser → Type 0} {x : Buffers} (r : Step)
-    → Walk t rule (f ∷ []) gain 1 scope s m u v → Call t f 1 Q u v r x → (d : ℕ) → nodes ≤ s .builder .depth + d → rule (length (m .tree)) d (posOf s m) ≡ outOf r x
+last-is : {t : Tables} {rule f : Rule} {gain : ℕ} {scope : ℕ} {s : Parser} {m : Buffers} {u : Parser} {v : Buffers} {Q : Parser → Type 0}
+    {x : Buffers} (r : Step) → Walk t rule (f ∷ []) gain 1 scope s m u v → Call t f 1 Q u v r x
+    → (d : ℕ) → nodes ≤ s .builder .depth + d → rule (length (m .tree)) d (posOf s m) ≡ outOf r x
 unfolding line
 last-is (Went q) w k d h = steps-on w k refl d h
 last-is {x = x} (Refused number place) w k d h = stops-is w k ((number, (place, tt)), refl) x d h
 
 module _ {t : Tables} {m : Buffers} {r : Step} {x : Buffers} where
   -- the root was not opened
-  pub root-refused : {v : Buffers} → Steady t atRoot m → Opens (λ n. position.start (flat n) kinds.ScopeRoot) atRoot m r v → Stopped r → Parsed t m r x
+  pub root-refused : {v : Buffers} → Steady t atRoot m → Opens (λ n. position.start (flat n) kinds.ScopeRoot) atRoot m r v → Stopped r
+      → Parsed t m r x
   unfolding line
   root-refused {v} steady k st = record { is = plan-is t m (length (m .tree)) ∙ stop _ _ _ v x (k .told t steady .is) st; gone = stopped _ _ st }
 

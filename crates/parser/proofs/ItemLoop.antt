@@ -32,7 +32,8 @@ use Rattle.parser.proofs.Cycle.{runs, remarks}
 use Rattle.parser.proofs.Marks.{mark-here}
 
 -- a step, a change that calls nothing, and the last step
-three-steps : (f : Rule) (change : ℕ → Here → Here) (h : Rule) (n d : ℕ) (q : Here) → line (f ∷ (λ n d u. went (change n u)) ∷ h ∷ []) n d q ≡ bind (f n d q) (λ u. h n d (change n u))
+three-steps : (f : Rule) (change : ℕ → Here → Here) (h : Rule) (n d : ℕ) (q : Here)
+    → line (f ∷ (λ n d u. went (change n u)) ∷ h ∷ []) n d q ≡ bind (f n d q) (λ u. h n d (change n u))
 unfolding line
 three-steps f change h n d q = then-last (f n d q)
   where
@@ -51,7 +52,8 @@ body t greedy n d = listItems t greedy n (spec.content (flat n) (sourceOf t) (in
 module _ (t : Tables) (greedy : Bool) (p : Parser) (m : Buffers) where
   -- what is left of the loop, with so many turns
   abbrev more : ℕ → Rule
-  more fuel n d = spec.items (flat n) (sourceOf t) (spec.content (flat n) (sourceOf t) (innerAt t n d)) (stopsOf greedy (scopeAt (p .list .scope))) fuel
+  more fuel n d =
+      spec.items (flat n) (sourceOf t) (spec.content (flat n) (sourceOf t) (innerAt t n d)) (stopsOf greedy (scopeAt (p .list .scope))) fuel
 
   -- the walk so far, to q and v, with turns enough for what is left
   record Far (q : Parser) (v : Buffers) : Type 0 where
@@ -60,10 +62,19 @@ module _ (t : Tables) (greedy : Bool) (p : Parser) (m : Buffers) where
     pub walk : Walk t (body t greedy) (more fuel ∷ []) 0 0 (p .list .scope) p m q v
 
   items-begin : Ready t p m → Far p m
-  items-begin ready = record { fuel = leftOf t p; enough = omega arith; walk = begins ready (λ n d. sym (last-step (more (leftOf t p)) n d (posOf p m))) }
+  items-begin ready =
+      record {
+        fuel = leftOf t p;
+        enough = omega arith;
+        walk = begins ready (λ n d. sym (last-step (more (leftOf t p)) n d (posOf p m)));
+      }
+
+  -- whether the list goes on at q, asked in a scope
+  abbrev goes : ℕ → Parser → Bool
+  goes scope q = asked (goesOn greedy (scopeAt scope)) (peek (t .tokens) (cursorOf (q .lexer)))
 
   module _ {q : Parser} {v : Buffers} (far : Far q v) where
-    module _ (yes : asked (goesOn greedy (scopeAt (q .list .scope))) (peek (t .tokens) (cursorOf (q .lexer))) ≡ true) where
+    module _ (yes : goes (q .list .scope) q ≡ true) where
       item-there : Next t q
       item-there = asked-there (goesOn greedy (scopeAt (q .list .scope))) (t .tokens) (cursorOf (q .lexer)) yes
 
@@ -81,11 +92,12 @@ module _ (t : Tables) (greedy : Bool) (p : Parser) (m : Buffers) where
       unfolding spec.items
       turn-of zero enough w = let some = left-some (w .ready .steady .fine) item-there in absurd (omega arith)
       turn-of (suc fuel) enough w =
-          let asks : asked (goesOn greedy (scopeAt (p .list .scope))) (peek (t .tokens) (cursorOf (q .lexer))) ≡ true = rw (w .scope-is) at yes in
+          let asks : goes (p .list .scope) q ≡ true = rw (w .scope-is) at yes in
           record {
             fuel = fuel;
             enough = enough;
-            walk = turns w (λ n d. last-step (more (suc fuel)) n d (posOf q v) ∙ rw asks (sym (three-steps (item t) attaches (more fuel) n d (posOf q v))));
+            walk = turns w (λ n d.
+                last-step (more (suc fuel)) n d (posOf q v) ∙ rw asks (sym (three-steps (item t) attaches (more fuel) n d (posOf q v))));
           }
 
       turn : Turn
@@ -116,7 +128,8 @@ module _ (t : Tables) (greedy : Bool) (p : Parser) (m : Buffers) where
 
             items-go-on : Far y x
             items-go-on =
-                let walk = remarks after-item (z .list .start) (y .list .last) (l .same) (after-item .ready .steady .start) (mark-kept (l .last)) changed in
+                let start = after-item .ready .steady .start in
+                let walk = remarks after-item (z .list .start) (y .list .last) (l .same) start (mark-kept (l .last)) changed in
                 record { fuel = turn .fuel; enough = enough-left; walk = forgets walk }
               where
                 enough-left : leftOf t y ≤ turn .fuel
@@ -126,13 +139,11 @@ module _ (t : Tables) (greedy : Bool) (p : Parser) (m : Buffers) where
             items-less : leftOf t y < leftOf t q
             items-less = rw (l .same) (let read = passed-item .passed .read in omega arith)
 
-    module _ (no : asked (goesOn greedy (scopeAt (q .list .scope))) (peek (t .tokens) (cursorOf (q .lexer))) ≡ false) where
+    module _ (no : goes (q .list .scope) q ≡ false) where
       ended : (fuel n d : ℕ) → line (more fuel ∷ []) n d (posOf q v) ≡ line [] n d (posOf q v)
       unfolding spec.items line
       ended zero n d = refl
-      ended (suc fuel) n d =
-          let asks : asked (goesOn greedy (scopeAt (p .list .scope))) (peek (t .tokens) (cursorOf (q .lexer))) ≡ false = rw (far .walk .scope-is) at no in
-          rw asks
+      ended (suc fuel) n d = let asks : goes (p .list .scope) q ≡ false = rw (far .walk .scope-is) at no in rw asks
 
       items-end : Runs t 0 (λ n d. body t greedy n d (posOf p m)) p m (Went q) v
       items-end = arrives (turns (far .walk) (ended (far .fuel)))
@@ -148,7 +159,7 @@ module _ (t : Tables) (p : Parser) (m : Buffers) where
 -- ---- as far as an extent goes
 
 -- whether an item is read next
-abbrev asks : Tables → Parser → Extent → Bool → Bool
+abbrev pub asks : Tables → Parser → Extent → Bool → Bool
 asks t q e first = moreOf e first (scopeAt (q .list .scope)) (peek (t .tokens) (cursorOf (q .lexer)))
 
 module _ (t : Tables) (p : Parser) (m : Buffers) where
@@ -169,7 +180,10 @@ module _ (t : Tables) (p : Parser) (m : Buffers) where
     pub notes-long : length (v .dropped) ≡ length (m .dropped)
 
   far-turned : {greedy : Bool} {q : Parser} {v : Buffers} → Far t greedy p m q v → Turned q v
-  far-turned far = record { ready = far .walk .ready; depth = let depth = far .walk .depth in omega arith; tree-long = far .walk .passed .tree-long; notes-long = far .walk .passed .notes-long }
+  far-turned far =
+      let w = far .walk in
+      let depth = w .depth in
+      record { ready = w .ready; depth = omega arith; tree-long = w .passed .tree-long; notes-long = w .passed .notes-long }
 
   -- what the loop comes to
   abbrev Read : Extent → Step → Buffers → Type 0
@@ -185,7 +199,9 @@ module _ (t : Tables) (p : Parser) (m : Buffers) where
     loop-turned (Scoped scope) first l ready = far-turned (l .held)
     loop-turned Greedy first l ready = far-turned (l .held)
     loop-turned OneItem true l ready = rw (l .held .0, l .held .1) (record { ready = ready; depth = refl; tree-long = refl; notes-long = refl })
-    loop-turned OneItem false l ready = let left = l .held .gone in record { ready = left .ready; depth = left .depth; tree-long = left .passed .tree-long; notes-long = left .passed .notes-long }
+    loop-turned OneItem false l ready =
+        let left = l .held .gone in
+        record { ready = left .ready; depth = left .depth; tree-long = left .passed .tree-long; notes-long = left .passed .notes-long }
 
     pub loop-there : (e : Extent) (first : Bool) → Loop e first q v → NextIf e t p → asks t q e first ≡ true → Next t q
     loop-there (Scoped scope) first l next goes = item-there t false p m (l .held) goes
@@ -207,13 +223,15 @@ module _ (t : Tables) (p : Parser) (m : Buffers) where
       loop-stops OneItem false l goes st = absurd (false≢true goes)
 
       module _ {z : Parser} (y : Parser) (went-on : r ≡ Went z) where
-        pub loop-goes-on : (e : Extent) (first : Bool) → Loop e first q v → asks t q e first ≡ true → Behind e (t .tokens) (t .shapes) q z y → Loop e false y x
+        pub loop-goes-on : (e : Extent) (first : Bool) → Loop e first q v → asks t q e first ≡ true
+            → Behind e (t .tokens) (t .shapes) q z y → Loop e false y x
         loop-goes-on (Scoped scope) first l goes b = record { held = items-go-on t false p m (l .held) goes read went-on b }
         loop-goes-on Greedy first l goes b = record { held = items-go-on t true p m (l .held) goes read went-on b }
         loop-goes-on OneItem true l goes b = record { held = rw (l .held .0, l .held .1, went-on, ← b) at read }
         loop-goes-on OneItem false l goes b = absurd (false≢true goes)
 
-        pub loop-less : (e : Extent) (first : Bool) → Loop e first q v → asks t q e first ≡ true → Behind e (t .tokens) (t .shapes) q z y → leftOf t y < leftOf t q
+        pub loop-less : (e : Extent) (first : Bool) → Loop e first q v → asks t q e first ≡ true
+            → Behind e (t .tokens) (t .shapes) q z y → leftOf t y < leftOf t q
         loop-less (Scoped scope) first l goes b = items-less t false p m (l .held) goes read went-on b
         loop-less Greedy first l goes b = items-less t true p m (l .held) goes read went-on b
         loop-less OneItem first l goes b = rw b (let passed = (rw went-on at read) .gone .passed .read in omega arith)

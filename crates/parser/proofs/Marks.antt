@@ -17,7 +17,7 @@ use Rattle.routines.specs.Contract.{MarkOk, Ready}
 use Rattle.routines.specs.Stands.{Buffers}
 use Rattle.routines.specs.declared.state.KeptMark.{KeptMark}
 use Rattle.routines.specs.declared.state.Parser.{Parser}
-use Rattle.parser.specs.Member.{LastAfter, markHere}
+use Rattle.parser.specs.Member.{LastAfter, markHere, tables}
 
 -- a mark that is made here
 pub mark-here : {t : Tables} {p : Parser} {m : Buffers} → Ready t p m → MarkOk (markHere p) (p .builder)
@@ -35,18 +35,24 @@ abbrev pub attached : ℕ → Shape → Bool
 attached kind shape = attachable kind (shapeFor shape)
 
 module _ {tokens shapes : List ℕ} {shape : Shape} (p q : Parser)
-    (shape-is : (text states : List ℕ) → shapeFor shape ≡ shapeOf (record { text = text; tokens = tokens; shapes = shapes; states = states }) (p .lexer .token)) where
+    (shape-is : (text states : List ℕ) → shapeFor shape ≡ shapeOf (tables text tokens shapes states) (p .lexer .token)) where
   -- the rule's question has the code's answer
   asks : (t : Tables) → t .tokens ≡ tokens → t .shapes ≡ shapes → (b : Bool) → attached (kindAt tokens (p .lexer .token)) shape ≡ b
       → attachable (kindAt (t .tokens) (p .lexer .token)) (shapeOf t (p .lexer .token)) ≡ b
   asks t seen-tokens seen-shapes b e =
-      let same : shapeOf t (p .lexer .token) ≡ shapeOf (record { text = t .text; tokens = tokens; shapes = shapes; states = t .states }) (p .lexer .token) = rw (← seen-tokens, ← seen-shapes) refl in
+      let token = p .lexer .token in
+      let same : shapeOf t token ≡ shapeOf (tables (t .text) tokens shapes (t .states)) token = rw (← seen-tokens, ← seen-shapes) refl in
       rw (same, ← shape-is (t .text) (t .states), seen-tokens) e
 
-  pub last-moved : {mark : KeptMark} {r : Parser} → attached (kindAt tokens (p .lexer .token)) shape ≡ true → 0 < p .builder .rows → mark ≡ markHere p → r ≡ remarked q (q .list .start) mark → LastAfter tokens shapes p q r
+  pub last-moved : {mark : KeptMark} {r : Parser} → attached (kindAt tokens (p .lexer .token)) shape ≡ true → 0 < p .builder .rows
+      → mark ≡ markHere p → r ≡ remarked q (q .list .start) mark → LastAfter tokens shapes p q r
   last-moved said written mark-is r-is =
       rw (r-is, mark-is)
-      (record { is = λ t seen-tokens seen-shapes n m v. rw (asks t seen-tokens seen-shapes true said, there p written); last = inr refl; same = refl })
+      (record {
+        is = λ t seen-tokens seen-shapes n m v. rw (asks t seen-tokens seen-shapes true said, there p written);
+        last = inr refl;
+        same = refl;
+      })
 
   pub last-kept : attached (kindAt tokens (p .lexer .token)) shape ≡ false → LastAfter tokens shapes p q q
   last-kept said = record { is = λ t seen-tokens seen-shapes n m v. rw (asks t seen-tokens seen-shapes false said); last = inl refl; same = refl }

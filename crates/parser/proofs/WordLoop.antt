@@ -1,16 +1,16 @@
--- The loop over a Word's characters, inside the loop of arguments: while bytes of the Word are left they are what the cursor stands before, and each turn
--- is a turn of the rule's one loop. Assumes nothing.
+-- The loop over a Word's characters, inside the loop of arguments: while bytes of the Word are left they are what the cursor stands before, and each
+-- turn is a turn of the rule's one loop. Assumes nothing.
 use mathlib.Core.Path.{_≡_, refl, sym, ap, _∙_}
 use mathlib.Core.List.{List}
 use mathlib.Core.Option.{some}
-use Prim.Native.Nat.{ℕ, _+_, _-_, _≤_, _<_}
+use Prim.Native.Nat.{ℕ, _+_, _≤_, _<_}
 use native.Mathlib.Omega.{arith}
 use lib.ListN.{length, drop, length-drop}
 use Rattle.rules.specs.Characters.{charLength}
 use Rattle.rules.specs.Checks.{Tables, sourceOf}
 use Rattle.rules.specs.Cursor.{Cursor, peekText, restLength}
 use Rattle.rules.specs.Flat.{flat}
-use Rattle.rules.specs.Items.{ends, character, ifTried}
+use Rattle.rules.specs.Items.{character, ifTried}
 use Rattle.rules.specs.Matcher.{Matcher, Tried, accepted, term, tryMatch}
 use Rattle.rules.specs.Matcher as matcher
 use Rattle.rules.specs.Reading as spec
@@ -32,8 +32,12 @@ use Rattle.parser.proofs.Cycle.{runs-as, ran-runs}
 use Rattle.parser.proofs.AfterArgument.{character-behind}
 use Rattle.parser.proofs.ArgumentLoop.{Far, by-kind, arguments-end, arguments-stop, arguments-take, arguments-take-less}
 
--- one character as an argument, as the routine outside the cycle reads it, is an argument of that piece
-pub as-argument : {t : Tables} {sees : Tables → Type 0} {q : Parser} {v : Buffers} {r : Step} {x : Buffers} → sees t → Ready t q v → Ran sees 1 (λ s n. argumentNode (flat n) s (singleChar (flat n) s)) q v r x
+-- the routine outside the cycle that reads one character as an argument
+abbrev Routine : (Tables → Type 0) → Parser → Buffers → Step → Buffers → Type 0
+Routine sees q v r x = Ran sees 1 (λ s n. argumentNode (flat n) s (singleChar (flat n) s)) q v r x
+
+-- what it reads is an argument of that piece
+as-argument : {t : Tables} {sees : Tables → Type 0} {q : Parser} {v : Buffers} {r : Step} {x : Buffers} → sees t → Ready t q v → Routine sees q v r x
     → Runs t 1 (λ n d. spec.argument (flat n) (sourceOf t) (innerAt t n d) character (posOf q v)) q v r x
 unfolding spec.argument spec.piece
 as-argument seen ready k = runs-as (ran-runs seen ready k) (λ n d. refl)
@@ -57,26 +61,35 @@ module _ (t : Tables) where
       pub moved : length word ≡ 0 → leftOf t q < leftOf t from
 
     pub taking-begins : {q : Parser} {m : Matcher} {word : List ℕ} {v : Buffers} → Far t p first b q m v → Before word q → Taking q q m word v
-    taking-begins {word = word} far here = record { far = far; before = λ some. here; no-more = omega arith; moved = λ none. absurd (let some = long in omega arith) }
+    taking-begins {word = word} far here =
+        record {
+          far = far;
+          before = λ some. here;
+          no-more = omega arith;
+          moved = λ none. absurd (let some = long in omega arith);
+        }
       where
         long : 1 ≤ length word
         long = rw (here .is) (far .walk .ready .steady .fine .word (here .there) (here .kind) .some)
 
     module _ {from q : Parser} {m : Matcher} {word : List ℕ} {v : Buffers} (k : Taking from q m word v) (some-left : 0 < length word) where
-      chosen : {tried : Tried} → tried ≡ tryMatch (t .states) m term → (n d : ℕ) → spec.choiceAt (flat n) (sourceOf t) (innerAt t n d) m (posOf q v) ≡ ifTried character tried
+      chosen : {tried : Tried} → tried ≡ tryMatch (t .states) m term
+          → (n d : ℕ) → spec.choiceAt (flat n) (sourceOf t) (innerAt t n d) m (posOf q v) ≡ ifTried character tried
       chosen e =
           let here = k .before some-left in
-          by-kind t p first b (k .far) (peek-some (t .tokens) (cursorOf (q .lexer)) (here .there) ∙ ap some (here .kind)) (choose-word (t .states) (scopeAt (q .list .scope)) m ∙ ap (ifTried character) (sym e))
+          let peeked = peek-some (t .tokens) (cursorOf (q .lexer)) (here .there) ∙ ap some (here .kind) in
+          by-kind t p first b (k .far) peeked (choose-word (t .states) (scopeAt (q .list .scope)) m ∙ ap (ifTried character) (sym e))
 
       -- a refused character ends both loops
-      pub taking-ends : matcher.refused ≡ tryMatch (t .states) m term → Runs t 0 (λ n d. allArguments t first n (innerAt t n d) (posOf p b)) p b (Went q) v
+      pub taking-ends : matcher.refused ≡ tryMatch (t .states) m term
+          → Runs t 0 (λ n d. allArguments t first n (innerAt t n d) (posOf p b)) p b (Went q) v
       taking-ends e = arguments-end t p first b (k .far) (chosen e)
 
       -- what the routine for a character asks
       pub taking-known : Known (Sees word q) q v
       taking-known = record { t = t; seen = (refl, k .before some-left .is); ready = k .far .walk .ready }
 
-      module _ {next : Matcher} (e : accepted next ≡ tryMatch (t .states) m term) {r : Step} {x : Buffers} (ran : Ran (Sees word q) 1 (λ s n. argumentNode (flat n) s (singleChar (flat n) s)) q v r x) where
+      module _ {next : Matcher} (e : accepted next ≡ tryMatch (t .states) m term) {r : Step} {x : Buffers} (ran : Routine (Sees word q) q v r x) where
         read : Runs t 1 (λ n d. spec.argument (flat n) (sourceOf t) (innerAt t n d) character (posOf q v)) q v r x
         read = as-argument (refl, k .before some-left .is) (k .far .walk .ready) ran
 
@@ -94,16 +107,19 @@ module _ (t : Tables) where
             still-before some-more =
                 let here = k .before some-left in
                 let c = cursorOf (q .lexer) in
-                let size = charLength (peekText (t .text) (t .tokens) c) in
-                let long : length (peekText (t .text) (t .tokens) c) ≡ restLength (t .tokens) c = rest-length (k .far .walk .ready .steady .fine) (here .there) in
-                let left : 0 < length (drop size (peekText (t .text) (t .tokens) c)) = rw (e-rest, here .is) at some-more in
-                let shorter : size < restLength (t .tokens) c = omega (arith, length-drop size (peekText (t .text) (t .tokens) c)) in
-                let behind : cursorOf (z .lexer) ≡ record { token = c .token; taken = c .taken + size } = character-behind read went-on ∙ consumed-part (t .tokens) size c shorter in
+                let whole = peekText (t .text) (t .tokens) c in
+                let size = charLength whole in
+                let long : length whole ≡ restLength (t .tokens) c = rest-length (k .far .walk .ready .steady .fine) (here .there) in
+                let left : 0 < length (drop size whole) = rw (e-rest, here .is) at some-more in
+                let shorter : size < restLength (t .tokens) c = omega (arith, length-drop size whole) in
+                let further-on : Cursor = record { token = c .token; taken = c .taken + size } in
+                let behind : cursorOf (z .lexer) ≡ further-on = character-behind read went-on ∙ consumed-part (t .tokens) size c shorter in
+                let text-there = ap (peekText (t .text) (t .tokens)) behind ∙ further (t .text) (t .tokens) c size in
                 let token : z .lexer .token ≡ q .lexer .token = ap (λ (y : Cursor). y .token) behind in
                 record {
                   there = rw token (here .there);
                   kind = rw token (here .kind);
-                  is = e-rest ∙ ap (λ w. drop (charLength w) w) (here .is) ∙ sym (ap (peekText (t .text) (t .tokens)) behind ∙ further (t .text) (t .tokens) c size);
+                  is = e-rest ∙ ap (λ w. drop (charLength w) w) (here .is) ∙ sym text-there;
                 }
 
             pub taking-goes-on : Taking from z next rest x

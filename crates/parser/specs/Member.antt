@@ -1,20 +1,22 @@
 -- The contract of a member of the cycle, over the lists that the lent slices hold.
-use Prim.Native.Nat.{ℕ, _<_}
+use Prim.Native.Nat.{ℕ, _<_, _≤_, _/_}
 use mathlib.Core.Bool.{Bool, true, false, cond}
 use mathlib.Core.Logic.{_⊎_}
 use mathlib.Core.Path.{_≡_}
 use mathlib.Core.List.{List}
 use mathlib.Core.Option.{Option}
+use lib.ListN.{length}
 use Rattle.rules.specs.Checks.{Tables, shapeOf, sourceOf}
 use Rattle.rules.specs.Flat.{flat}
 use Rattle.rules.specs.Items.{greedyStops, nameOnly, ofClass}
+use Rattle.rules.specs.Limits.{shapeWidth}
 use Rattle.rules.specs.Matcher.{Matcher, isGreedy, startMatch}
 use Rattle.rules.specs.Outcome.{Out}
 use Rattle.rules.specs.Position.{Rule, Shape, asked}
 use Rattle.rules.specs.Reading.{content, contentAt, items, itemList, lastAfter, arguments, greedyItems}
 use Rattle.rules.specs.Routines.{turns}
 use Rattle.rules.specs.Scope.{Scope, stops}
-use Rattle.rules.specs.Tables.{tokenCount}
+use Rattle.rules.specs.Tables.{tokenCount, shapeAt}
 use Rattle.items.specs.Items.{shapeFor}
 use Rattle.items.specs.declared.shape.Shape.{Shape as CodeShape}
 use Rattle.routines.specs.Stands.{Buffers, Here, posOf, markAt, keptOf, markIn, noMark}
@@ -84,9 +86,15 @@ goesOn greedy scope kind = cond (stopsOf greedy scope kind) false true
 abbrev pub markHere : Parser → KeptMark
 markHere p = keptOf (markAt p)
 
+-- an item began at p: with a token, whose shape is in the table, in a node that is open
+abbrev pub Began : List ℕ → List ℕ → Parser → Type 0
+Began tokens shapes p =
+    (p .lexer .token < tokenCount tokens) × (shapeAt tokens (p .lexer .token) ≤ length shapes / shapeWidth) × (0 < p .builder .rows)
+
 -- the state behind an item that began at p and ended at q: by the rule, and the list's scope and start are q's
 pub record LastAfter (tokens shapes : List ℕ) (p q r : Parser) : Type 0 where
-  pub is : (t : Tables) → t .tokens ≡ tokens → t .shapes ≡ shapes → (n : ℕ) (m v : Buffers) → lastAfter (flat n) (sourceOf t) (posOf p m) (posOf q v) ≡ posOf r v
+  pub is : (t : Tables) → t .tokens ≡ tokens → t .shapes ≡ shapes → (n : ℕ) (m v : Buffers)
+      → lastAfter (flat n) (sourceOf t) (posOf p m) (posOf q v) ≡ posOf r v
   pub last : (r .list .last ≡ q .list .last) ⊎ (r .list .last ≡ markHere p)
   pub same : r ≡ remarked q (q .list .start) (r .list .last)
 

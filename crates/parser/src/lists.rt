@@ -1,14 +1,10 @@
 // How far items are read (`Extent`), and what the loop over them asks and changes.
 ghost use mathlib.Core.Path.{_≡_};
-ghost use Prim.Native.Nat.{_<_, _≤_, _/_};
-ghost use lib.ListN.{length};
 ghost use Rattle.rules.specs.Cursor.{peek};
-ghost use Rattle.rules.specs.Limits.{shapeWidth};
 ghost use Rattle.rules.specs.Position.{asked};
-ghost use Rattle.rules.specs.Tables.{tokenCount, shapeAt};
 ghost use Rattle.lexer.specs.Reading.{cursorOf};
 ghost use Rattle.syntax.specs.ParseScope.{scopeAt};
-ghost use Rattle.parser.specs.Member.{goesOn, LastAfter, Behind, more, opened, closed};
+ghost use Rattle.parser.specs.Member.{goesOn, Began, LastAfter, Behind, more, opened, closed};
 use items::Shape;
 use items::attachable;
 use items::greedy_stops;
@@ -19,8 +15,7 @@ use routines::Mark;
 use routines::Parser;
 use syntax::ParseScope;
 
-// How far is read: a new list of a scope, all that a greedy command takes, or one item. All three go through one loop, so that an item is read at one
-// place and the compiler puts its reading into the loop.
+// How far is read: a new list of a scope, all that a greedy command takes, or one item. All three go through one loop, only for speed: see `items`.
 pub enum Extent {
     List(ParseScope),
     Greedy,
@@ -78,7 +73,7 @@ pub fn closed(p: Parser, q: Parser, extent: Extent) -> Parser
 
 // The mark before an item that is attachable becomes last: p is where the item began, q where it ended.
 fn last_after(tokens: &[u32], shapes: &[u32], p: Parser, q: Parser) -> Parser
-    requires { ⌜ (p .lexer .token < tokenCount (now tokens)) × (shapeAt (now tokens) (p .lexer .token) ≤ length (now shapes) / shapeWidth) × (0 < p .builder .rows) ⌝ }
+    requires { ⌜ Began (now tokens) (now shapes) p ⌝ }
     ensures { λ r. ⌜ LastAfter (now (tokens .entry)) (now (shapes .entry)) p q r ⌝ }
 {
     let token = p.lexer.token;
@@ -91,7 +86,7 @@ fn last_after(tokens: &[u32], shapes: &[u32], p: Parser, q: Parser) -> Parser
 
 // The state behind an item: where one item is read, last is left alone.
 pub fn behind(tokens: &[u32], shapes: &[u32], p: Parser, q: Parser, extent: Extent) -> Parser
-    requires { ⌜ (p .lexer .token < tokenCount (now tokens)) × (shapeAt (now tokens) (p .lexer .token) ≤ length (now shapes) / shapeWidth) × (0 < p .builder .rows) ⌝ }
+    requires { ⌜ Began (now tokens) (now shapes) p ⌝ }
     ensures { λ r. ⌜ Behind extent (now (tokens .entry)) (now (shapes .entry)) p q r ⌝ }
 {
     match extent {

@@ -35,7 +35,8 @@ pub fn parse(
     dropped: &mut [u32],
 ) -> Step
     requires { ⌜ Readable (given text tokens shapes states) (now dropped) ⌝ }
-    ensures { λ r. let t = given (text .entry) (tokens .entry) (shapes .entry) (states .entry) in ⌜ Parsed t (lent (tree .entry) (dropped .entry)) r (lent (tree .exit) (dropped .exit)) ⌝ }
+    ensures { λ r. let t = given (text .entry) (tokens .entry) (shapes .entry) (states .entry) in
+        ⌜ Parsed t (lent (tree .entry) (dropped .entry)) r (lent (tree .exit) (dropped .exit)) ⌝ }
 {
     let p = at_start();
     let opened = p.start_node(tree, SyntaxKind::SCOPE_ROOT);

@@ -1,20 +1,23 @@
--- The needs of `arguments`: the outer loop's invariant is the walk so far (ArgumentLoop.antt). The inner loop does not know where the outer one began, so its
--- invariant (WordLoop.antt) is for every walk that came to where it began.
-use Prim.Native.Nat.{ℕ}
+-- The needs of `arguments`: the outer loop's invariant is the walk so far (ArgumentLoop.antt). The inner loop does not know where the outer one
+-- began, so its invariant (WordLoop.antt) is for every walk that came to where it began.
+use Prim.Native.Nat.{ℕ, _≤_}
 use borrow.Author.Needs.{needs}
 use mathlib.Core.Path.{_≡_, sym, ap, _∙_}
 use native.Mathlib.Omega.{arith}
-use lib.ListN.{drop}
-use Rattle.rules.specs.Items.{choose}
+use lib.ListN.{length, drop}
+use Rattle.rules.specs.Checks.{Tables}
+use Rattle.rules.specs.Matcher.{accepted, term, tryMatch}
 use Rattle.rules.proofs.Characters.{char-fits}
 use Rattle.lexer.specs.Reading.{peekedOf}
 use Rattle.lexer.proofs.Laws.{peeked}
 use Rattle.lexer.proofs.Utf8.{to-the-end}
-use Rattle.syntax.specs.ParseScope.{scopeAt}
 use Rattle.arg_match.specs.Answers.{matcherOf, triedOf}
 use Rattle.items.specs.Items.{choiceFor}
-use Rattle.parser.proofs.ArgumentLoop.{at-end, by-kind, arguments-begin, arguments-end, arguments-hold, arguments-hold-less, arguments-stop, arguments-take, arguments-take-less}
-use Rattle.parser.proofs.WordLoop.{taking-begins, taking-ends, taking-known, taking-stops, taking-less, taking-goes-on}
+use Rattle.items.specs.declared.choice.Choice.{Choice}
+use Rattle.routines.specs.Stands.{Buffers}
+use Rattle.parser.specs.Member.{Next, tables, buffers}
+use Rattle.parser.proofs.ArgumentLoop.{Chosen, at-end, by-kind, arguments-begin, arguments-end, arguments-hold, arguments-hold-less, arguments-stop, arguments-take, arguments-take-less}
+use Rattle.parser.proofs.WordLoop.{Taking, taking-begins, taking-ends, taking-known, taking-stops, taking-less, taking-goes-on}
 use Rattle.parser.proofs.arguments.Reads as own
 use Rattle.parser.proofs.+arg+arguments+attach_component+begin+command+content+environment+greedy_command+inside+item_group+item_lr+items+match_arguments+matched+piece+script as cycle
 use cycle.Lts-arguments as lts
@@ -24,11 +27,39 @@ use Loops.*
 mod At
 use At.*
 
--- the choice is made in the list's scope
-chosen : (t : ℕ) (c : Place lts.After-choose t)
-    → choose (choose→entry c .args .states .now) (scopeAt (choose→at-arguments c .arguments .now .list .scope))
-    (matcherOf (choose→at-arguments c .arguments .matcher)) (choose→peeked c .peeked .given .0 .0) ≡ choiceFor (c .choose .result)
-chosen t c = sym (rw (c .before .scope .ensures) at (c .choose .ensures))
+abbrev T : {t : ℕ} → Start t → Tables
+T b = tables (b .args .text .now) (b .args .tokens .now) (b .args .shapes .now) (b .args .states .now)
+
+abbrev M : {t : ℕ} → Start t → Buffers
+M b = buffers (b .args .tree .now) (b .args .dropped .now)
+
+-- a token is next
+next : {t : ℕ} (c : Place lts.After-peeked t) → Next (T (peeked→entry c)) (peeked→at-arguments c .arguments .now)
+next c = (peeked _ _ (peeked→peek c .peek .ensures) (c .peeked .given .1)) .there
+
+-- what is chosen for it, in the list's scope
+chosen-here : {t : ℕ} (c : Place lts.After-choose t) {choice : Choice} → c .choose .result ≡ choice
+    → Chosen _ _ _ _ (choose→at-arguments c .arguments .inv) (choiceFor choice)
+chosen-here c e =
+    by-kind _ _ _ _ (choose→at-arguments c .arguments .inv)
+    (choose→peek c .peek .ensures ∙ ap peekedOf (choose→peeked c .peeked .given .1))
+    (sym (rw (c .before .scope .ensures) at (c .choose .ensures)) ∙ ap choiceFor e)
+
+-- the loop over a Word, from where the outer one came to
+taking : {t : ℕ} (c : Place lts.At-loop t)
+    → let b = at-loop→entry c in let outer = at-loop→at-arguments c .arguments in let l = c .loop in
+    Taking (T b) (b .args .p) (matcherOf (b .args .m)) (M b) (outer .now) (l .now) (matcherOf (l .matcher)) (l .word .now)
+    (buffers (l .tree) (l .dropped))
+taking c = c .loop .inv _ _ _ (at-loop→at-arguments c .arguments .inv)
+
+-- a character is accepted
+tried-here : {t : ℕ} (c : Place lts.After-tried t)
+    → accepted (matcherOf (c .tried .given .0 .0)) ≡ tryMatch (tried→entry c .args .states .now) (matcherOf (tried→at-loop c .loop .matcher)) term
+tried-here c = ap triedOf (sym (c .tried .given .1)) ∙ tried→try-match c .try-match .ensures
+
+-- its bytes are there
+size-fits : {t : ℕ} (c : Place lts.After-char-len t) → c .char-len .result ≤ length (char-len→at-loop c .loop .word .now)
+size-fits c = let size = c .char-len .ensures in let fits = char-fits (char-len→at-loop c .loop .word .now) in omega arith
 
 pub meets : {W : Type 1} (t : ℕ) → lts.Closed (claims t) (measures.arguments .at t) own.Post W
 meets t =
@@ -42,67 +73,47 @@ meets t =
     (λ c. search needs)
     (λ c. search needs)
     -- peek-text
-    (λ c κs. (
-      (peeked _ _ (then1→peek c .peek .ensures) (then1→peeked c .peeked .given .1)) .there,
-      then1→at-arguments
-          c .arguments .inv .walk .ready .steady .fine,
-    ))
+    (λ c κs. (next (then1→peeked c), then1→at-arguments c .arguments .inv .walk .ready .steady .fine))
     (λ c. search needs)
     (λ c. search needs)
     (λ c. search needs)
     (λ c.
     λ p first b far. taking-begins _ _ _ _ far (record {
-      there = (peeked _ _ (word→peek c .peek .ensures) (word→peeked c .peeked .given .1)) .there;
+      there = next (word→peeked c);
       kind = (peeked _ _ (word→peek c .peek .ensures) (word→peeked c .peeked .given .1)) .is ∙ word→then1 c .if1 .taken;
-      is = to-the-end
-          (c .before .peek-text .result .now) 0 ∙ c .before .peek-text .ensures;
+      is = to-the-end (c .before .peek-text .result .now) 0 ∙ c .before .peek-text .ensures;
     }))
-    (λ c. (c .before .loop .inv _ _ _ (loop→at-arguments c .arguments .inv)) .moved (let none = c .loop-test .left in omega arith))
-    (λ c. (c .before .loop .inv _ _ _ (loop→at-arguments c .arguments .inv)) .far)
+    (λ c. taking (c .before) .moved (let none = c .loop-test .left in omega arith))
+    (λ c. taking (c .before) .far)
     (λ c κs. search needs)
     (λ c. search needs)
     (λ c. search needs)
     (λ c κs. search needs)
     -- character
     (λ c κs.
-    let here = (character-arg2→at-loop c .loop .inv _ _ _ (character-arg2→at-arguments c .arguments .inv)) .before
-    (character-arg2→in-loop c .loop-test .taken) in (
-      (here .there, here .kind),
-      (character-arg2→at-loop c .loop .inv _ _ _ (character-arg2→at-arguments c .arguments .inv)) .far .holding,
-      taking-known _ _ _ _ (character-arg2→at-loop c .loop .inv _ _ _ (character-arg2→at-arguments c .arguments .inv))
-          (character-arg2→in-loop c .loop-test .taken),
-    ))
+    let far = taking (character-arg2→at-loop c) in
+    let some = character-arg2→in-loop c .loop-test .taken in
+    let here = far .before some in
+    ((here .there, here .kind), far .far .holding, taking-known _ _ _ _ far some))
     (λ c. search needs)
     (λ c. search needs)
     (λ c κs. search needs)
+    (λ c. again→character c .character .kept .1 .0 ∙ taking (again→at-loop c) .far .walk .passed .tree-long)
+    (λ c. again→character c .character .kept .1 .1 .0 ∙ taking (again→at-loop c) .far .walk .passed .notes-long)
     (λ c.
-    again→character c .character .kept .1 .0 ∙ (again→at-loop c .loop .inv _ _ _
-    (again→at-arguments c .arguments .inv)) .far .walk .passed .tree-long)
-    (λ c.
-    again→character c .character .kept .1 .1 .0 ∙
-    (again→at-loop c .loop .inv _ _ _ (again→at-arguments c .arguments .inv)) .far .walk .passed .notes-long)
-    (λ c.
-    rw (c .again .ensures) (taking-stops _ _ _ _ (again→at-loop c .loop .inv _ _ _ (again→at-arguments c .arguments .inv))
-    (again→in-loop c .loop-test .taken) (ap triedOf (sym (again→tried c .tried .given .1)) ∙ again→try-match c .try-match .ensures)
-    (again→character c .character .ensures) (c .before .enum-told3 .given)))
-    (λ c.
-    let size = known-told3→char-len c .char-len .ensures in
-    let fits = char-fits (known-told3→at-loop c .loop .word .now) in
-    omega arith)
-    (λ c.
-    let size = known-told3→char-len c .char-len .ensures in
-    let fits = char-fits (known-told3→at-loop c .loop .word .now) in
-    omega arith)
+    rw (c .again .ensures) (taking-stops _ _ _ _ (taking (again→at-loop c)) (again→in-loop c .loop-test .taken)
+    (tried-here (again→tried c)) (again→character c .character .ensures) (c .before .enum-told3 .given)))
+    (λ c. let fits = size-fits (known-told3→char-len c) in omega arith)
+    (λ c. let fits = size-fits (known-told3→char-len c) in omega arith)
     (λ c. search needs)
     (λ c.
-    taking-less _ _ _ _ (word2→at-loop c .loop .inv _ _ _ (word2→at-arguments c .arguments .inv)) (word2→in-loop c .loop-test .taken)
-    (ap triedOf (sym (word2→tried c .tried .given .1)) ∙ word2→try-match c .try-match .ensures) (word2→character c .character .ensures)
-    (word2→taken c .taken .given .1))
+    taking-less _ _ _ _ (taking (word2→at-loop c)) (word2→in-loop c .loop-test .taken) (tried-here (word2→tried c))
+    (word2→character c .character .ensures) (word2→taken c .taken .given .1))
     (λ c.
+    let word = word2→at-loop c .loop .word .now in
+    let rest = to-the-end word (word2→char-len c .char-len .result) ∙ ap (λ size. drop size word) (word2→char-len c .char-len .ensures) in
     λ p first b far. taking-goes-on _ _ _ _ (word2→at-loop c .loop .inv p first b far) (word2→in-loop c .loop-test .taken)
-    (ap triedOf (sym (word2→tried c .tried .given .1)) ∙ word2→try-match c .try-match .ensures) (word2→character c .character .ensures)
-    (word2→taken c .taken .given .1) (to-the-end (word2→at-loop c .loop .word .now) (word2→char-len c .char-len .result) ∙ ap
-    (λ size. drop size (word2→at-loop c .loop .word .now)) (word2→char-len c .char-len .ensures)))
+    (tried-here (word2→tried c)) (word2→character c .character .ensures) (word2→taken c .taken .given .1) rest)
     (λ c κs. search needs)
     (λ c κs. scope→else1 c .if1 .left)
     (λ c. search needs)
@@ -113,68 +124,43 @@ meets t =
     let token = told5→at-arguments c .arguments .inv .walk .ready .steady .token in
     omega arith)
     (λ c.
-    arguments-hold-less _ _ _ _ (hold-trivia→at-arguments c .arguments .inv)
-    ((peeked _ _ (hold-trivia→peek c .peek .ensures) (hold-trivia→peeked c .peeked .given .1)) .there)
-    (by-kind _ _ _ _ (hold-trivia→at-arguments c .arguments .inv)
-    (hold-trivia→peek c .peek .ensures ∙ ap peekedOf (hold-trivia→peeked c .peeked .given .1))
-    (chosen t (hold-trivia→choose c) ∙ ap choiceFor (c .before .enum-told5 .given .1))) (c .hold-trivia .ensures))
+    arguments-hold-less _ _ _ _ (hold-trivia→at-arguments c .arguments .inv) (next (hold-trivia→peeked c))
+    (chosen-here (hold-trivia→choose c) (c .before .enum-told5 .given .1)) (c .hold-trivia .ensures))
     (λ c.
-    arguments-hold _ _ _ _ (hold-trivia→at-arguments c .arguments .inv)
-    ((peeked _ _ (hold-trivia→peek c .peek .ensures) (hold-trivia→peeked c .peeked .given .1)) .there)
-    (by-kind _ _ _ _ (hold-trivia→at-arguments c .arguments .inv)
-    (hold-trivia→peek c .peek .ensures ∙ ap peekedOf (hold-trivia→peeked c .peeked .given .1))
-    (chosen t (hold-trivia→choose c) ∙ ap choiceFor (c .before .enum-told5 .given .1))) (c .hold-trivia .ensures))
+    arguments-hold _ _ _ _ (hold-trivia→at-arguments c .arguments .inv) (next (hold-trivia→peeked c))
+    (chosen-here (hold-trivia→choose c) (c .before .enum-told5 .given .1)) (c .hold-trivia .ensures))
     (λ c. search needs)
     -- arg
     (λ c κs.
     let measure = arg-arg2→entry c .pre .0 in
-    let w = arg-arg2→at-arguments c .arguments .inv .walk in
-    let depth = w .depth in (
-      omega arith,
-      (
-        w .ready,
-        (peeked _ _ (arg-arg2→peek c .peek .ensures) (arg-arg2→peeked c .peeked .given .1)) .there,
-        arg-arg2→at-arguments c .arguments .inv .holding,
-      ),
-    ))
+    let far = arg-arg2→at-arguments c .arguments .inv in
+    let depth = far .walk .depth in
+    (omega arith, (far .walk .ready, next (arg-arg2→peeked c), far .holding)))
     (λ c. search needs)
     (λ c. search needs)
     (λ c κs. search needs)
     (λ c. again2→arg c .arg .kept .1 .1 .1 .1 .0 ∙ again2→at-arguments c .arguments .inv .walk .passed .tree-long)
     (λ c. again2→arg c .arg .kept .1 .1 .1 .1 .1 .0 ∙ again2→at-arguments c .arguments .inv .walk .passed .notes-long)
     (λ c.
-    rw (c .again2 .ensures) (arguments-stop _ _ _ _ (again2→at-arguments c .arguments .inv)
-    ((peeked _ _ (again2→peek c .peek .ensures) (again2→peeked c .peeked .given .1)) .there)
-    (by-kind _ _ _ _ (again2→at-arguments c .arguments .inv) (again2→peek c .peek .ensures ∙ ap peekedOf (again2→peeked c .peeked .given .1))
-    (chosen t (again2→choose c) ∙ ap choiceFor (again2→choice c .choice .given .1))) (again2→arg c .arg .ensures)
-    (c .before .enum-told6 .given)))
+    rw (c .again2 .ensures) (arguments-stop _ _ _ _ (again2→at-arguments c .arguments .inv) (next (again2→peeked c))
+    (chosen-here (again2→choose c) (again2→choice c .choice .given .1)) (again2→arg c .arg .ensures) (c .before .enum-told6 .given)))
     (λ c.
-    arguments-take-less _ _ _ _ (known-told5→at-arguments c .arguments .inv)
-    ((peeked _ _ (known-told5→peek c .peek .ensures) (known-told5→peeked c .peeked .given .1)) .there)
-    (by-kind _ _ _ _ (known-told5→at-arguments c .arguments .inv)
-    (known-told5→peek c .peek .ensures ∙ ap peekedOf (known-told5→peeked c .peeked .given .1))
-    (chosen t (known-told5→choose c) ∙ ap choiceFor (known-told5→choice c .choice .given .1))) (known-told5→arg c .arg .ensures)
-    (c .before .read .given .1))
+    arguments-take-less _ _ _ _ (known-told5→at-arguments c .arguments .inv) (next (known-told5→peeked c))
+    (chosen-here (known-told5→choose c) (known-told5→choice c .choice .given .1)) (known-told5→arg c .arg .ensures) (c .before .read .given .1))
     (λ c.
-    arguments-take _ _ _ _ (known-told5→at-arguments c .arguments .inv)
-    ((peeked _ _ (known-told5→peek c .peek .ensures) (known-told5→peeked c .peeked .given .1)) .there)
-    (by-kind _ _ _ _ (known-told5→at-arguments c .arguments .inv)
-    (known-told5→peek c .peek .ensures ∙ ap peekedOf (known-told5→peeked c .peeked .given .1))
-    (chosen t (known-told5→choose c) ∙ ap choiceFor (known-told5→choice c .choice .given .1))) (known-told5→arg c .arg .ensures)
-    (c .before .read .given .1))
+    arguments-take _ _ _ _ (known-told5→at-arguments c .arguments .inv) (next (known-told5→peeked c))
+    (chosen-here (known-told5→choose c) (known-told5→choice c .choice .given .1)) (known-told5→arg c .arg .ensures) (c .before .read .given .1))
     (λ c. told→at-arguments c .arguments .inv .walk .passed .tree-long)
     (λ c. told→at-arguments c .arguments .inv .walk .passed .notes-long)
     (λ c.
     arguments-end _ _ _ _ (told→at-arguments c .arguments .inv)
     (at-end _ _ _ _ (told→at-arguments c .arguments .inv) (told→peek c .peek .ensures ∙ ap peekedOf (c .enum-told .given .1))))
-    (λ c. (told2→at-loop c .loop .inv _ _ _ (told2→at-arguments c .arguments .inv)) .far .walk .passed .tree-long)
-    (λ c. (told2→at-loop c .loop .inv _ _ _ (told2→at-arguments c .arguments .inv)) .far .walk .passed .notes-long)
+    (λ c. taking (told2→at-loop c) .far .walk .passed .tree-long)
+    (λ c. taking (told2→at-loop c) .far .walk .passed .notes-long)
     (λ c.
-    taking-ends _ _ _ _ (told2→at-loop c .loop .inv _ _ _ (told2→at-arguments c .arguments .inv)) (told2→in-loop c .loop-test .taken)
+    taking-ends _ _ _ _ (taking (told2→at-loop c)) (told2→in-loop c .loop-test .taken)
     (ap triedOf (sym (c .enum-told2 .given .1)) ∙ told2→try-match c .try-match .ensures))
     (λ c. told4→at-arguments c .arguments .inv .walk .passed .tree-long)
     (λ c. told4→at-arguments c .arguments .inv .walk .passed .notes-long)
     (λ c.
-    arguments-end _ _ _ _ (told4→at-arguments c .arguments .inv)
-    (by-kind _ _ _ _ (told4→at-arguments c .arguments .inv) (told4→peek c .peek .ensures ∙ ap peekedOf (told4→peeked c .peeked .given .1))
-    (chosen t (told4→choose c) ∙ ap choiceFor (c .enum-told4 .given .1))))
+    arguments-end _ _ _ _ (told4→at-arguments c .arguments .inv) (chosen-here (told4→choose c) (c .enum-told4 .given .1)))

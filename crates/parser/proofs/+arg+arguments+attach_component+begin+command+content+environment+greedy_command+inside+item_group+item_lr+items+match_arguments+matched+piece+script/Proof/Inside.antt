@@ -26,7 +26,8 @@ meets t =
     (λ c. told→items c .items .kept .1 .1 .1 .1 .0)
     (λ c. told→items c .items .kept .1 .1 .1 .1 .1 .0)
     (λ c.
-    inside-stops (told→entry c .pre .1 .0) _ _ (told→entry c .args .extent) (told→opened c .opened .ensures) (told→items c .items .ensures) (c .enum-told .given))
+    inside-stops (told→entry c .pre .1 .0) _ _ (told→entry c .args .extent) (told→opened c .opened .ensures) (told→items c .items .ensures)
+    (c .enum-told .given))
     (λ c κs. search needs)
     (λ c. closed→items c .items .kept .1 .1 .1 .1 .0)
     (λ c. closed→items c .items .kept .1 .1 .1 .1 .1 .0)

@@ -26,5 +26,8 @@ closed-spec =
     (λ c κs. search needs)
     (λ c. search needs)
     (λ c. rw (returns→told c .enum-told .given .1) (c .with-list .ensures))
-    (λ c. rw (returns-2→told2 c .enum-told2 .given .1) (given-back (returns-2→entry c .args .p) (returns-2→entry c .args .q) _ _ (c .with-marks .ensures) (returns-2→list-start c .list-start .ensures)))
+    (λ c.
+    let given = returns-2→entry c .args in
+    rw (returns-2→told2 c .enum-told2 .given .1)
+    (given-back (given .p) (given .q) _ _ (c .with-marks .ensures) (returns-2→list-start c .list-start .ensures)))
     (λ c. rw (c .enum-told3 .given .1)))

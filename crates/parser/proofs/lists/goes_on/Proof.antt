@@ -25,7 +25,9 @@ module _ (tokens : List ℕ) (at : Cursor) {answer : Peeked} (told : peek tokens
   -- the code asks by its own scope, which stands for the rule's
   at-kind : {kind : ℕ} {own : Scope} {stop : Bool} → answer ≡ Kind kind → own ≡ scope → stop ≡ stopsOf greedy own kind
       → not stop ≡ asked (goesOn greedy scope) (peek tokens at)
-  at-kind {kind} {own} {stop} e same is = negated stop ∙ ap (λ b. cond b false true) (is ∙ ap (λ s. stopsOf greedy s kind) same) ∙ sym (asked-kind tokens at told (goesOn greedy scope) e)
+  at-kind {kind} {own} {stop} e same is =
+      negated stop ∙ ap (λ b. cond b false true) (is ∙ ap (λ s. stopsOf greedy s kind) same)
+      ∙ sym (asked-kind tokens at told (goesOn greedy scope) e)
     where
       negated : (b : Bool) → not b ≡ cond b false true
       negated true = refl
@@ -45,8 +47,10 @@ goes-on-spec =
     (λ c κs. search needs)
     (λ c.
     rw (returns-2→then1 c .if1 .taken)
-    (at-kind _ _ (returns-2→peek c .peek .ensures) true (scopeAt (returns-2→entry c .args .p .list .scope)) (returns-2→peeked c .peeked .given .1) (returns-2→scope c .scope .ensures) (c .greedy-stops .ensures)))
+    (at-kind _ _ (returns-2→peek c .peek .ensures) true (scopeAt (returns-2→entry c .args .p .list .scope))
+    (returns-2→peeked c .peeked .given .1) (returns-2→scope c .scope .ensures) (c .greedy-stops .ensures)))
     (λ c κs. search needs)
     (λ c.
     rw (returns-3→else1 c .if1 .left)
-    (at-kind _ _ (returns-3→peek c .peek .ensures) false (scopeAt (returns-3→entry c .args .p .list .scope)) (returns-3→peeked c .peeked .given .1) (returns-3→scope c .scope .ensures) (c .stop-by-scope .ensures))))
+    (at-kind _ _ (returns-3→peek c .peek .ensures) false (scopeAt (returns-3→entry c .args .p .list .scope))
+    (returns-3→peeked c .peeked .given .1) (returns-3→scope c .scope .ensures) (c .stop-by-scope .ensures))))

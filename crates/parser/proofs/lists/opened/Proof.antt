@@ -14,7 +14,8 @@ mod At
 use At.*
 
 -- the start mark is the one here
-listed : (p r : Parser) (scope : ParseScope) (here : Mark) → r ≡ relisted p (record { scope = numberOf scope; start = keptOf here; last = noMark }) → here ≡ markAt p
+listed : (p r : Parser) (scope : ParseScope) (here : Mark)
+    → r ≡ relisted p (record { scope = numberOf scope; start = keptOf here; last = noMark }) → here ≡ markAt p
     → r ≡ relisted p (record { scope = numberOf scope; start = markHere p; last = noMark })
 listed p r scope here is e = is ∙ ap (λ m. relisted p (record { scope = numberOf scope; start = keptOf m; last = noMark })) e
 
@@ -32,6 +33,10 @@ opened-spec =
     (λ c κs. search needs)
     (λ c κs. search needs)
     (λ c. search needs)
-    (λ c. rw (returns→extent c .extent .given .1) (listed (returns→entry c .args .p) _ (returns→extent c .extent .given .0 .0) _ (c .with-scope .ensures) (returns→checkpoint c .checkpoint .ensures)))
-    (λ c. rw (returns-2→told c .enum-told .given .1) (marked (returns-2→entry c .args .p) _ _ (c .with-marks .ensures) (returns-2→checkpoint2 c .checkpoint2 .ensures)))
+    (λ c.
+    let told = returns→extent c .extent .given in
+    rw (told .1) (listed (returns→entry c .args .p) _ (told .0 .0) _ (c .with-scope .ensures) (returns→checkpoint c .checkpoint .ensures)))
+    (λ c.
+    rw (returns-2→told c .enum-told .given .1)
+    (marked (returns-2→entry c .args .p) _ _ (c .with-marks .ensures) (returns-2→checkpoint2 c .checkpoint2 .ensures)))
     (λ c. rw (c .enum-told2 .given .1)))

@@ -14,7 +14,8 @@ use Rattle.parser.proofs.root.at_start.Tie as tie
 begins-at : (l : Lexer) → cursorOf l ≡ atStart → l ≡ record { token = 0; taken = 0 }
 begins-at l e = rw (ap (λ x. x .token) e, ap (λ x. x .taken) e)
 
-builds-nothing : (b : GreenNodeBuilder) → rowsOf b [] ≡ flat.empty .tree → b ≡ record { rows = 0; leaves = 0; depth = 0; children = 0; first = 0; node = 0 }
+builds-nothing : (b : GreenNodeBuilder) → rowsOf b [] ≡ flat.empty .tree
+    → b ≡ record { rows = 0; leaves = 0; depth = 0; children = 0; first = 0; node = 0 }
 builds-nothing b e =
     rw (ap (λ x. x .rows) e, ap (λ x. x .leaves) e, ap (λ x. x .depth) e, ap (λ x. x .children) e, ap (λ x. x .first) e, ap (λ x. x .node) e)
 

@@ -51,9 +51,13 @@ root-fits : (p : Parser) (tree : List ℕ) → p ≡ atRoot → Fits (atRoot .bu
 root-fits p tree e fits = rw e fits
 
 -- and so is the frame that it ends with
-ends-at : {p u : Parser} {frame : Frame} {r : Step} {tree after : List ℕ} (notes : List ℕ) → frame ≡ record { first = p .builder .first; node = p .builder .node } → p ≡ atRoot
-    → ((notes : List ℕ) → Closes (λ n. position.finish (flat n) kinds.ScopeRoot (shown.frameOf frame)) (frame .first) (frame .node) u (buffers tree notes) r (buffers after notes))
-    → Closes (λ n. position.finish (flat n) kinds.ScopeRoot (record { first = 0; node = 0 })) 0 0 u (buffers tree notes) r (buffers after notes)
+abbrev Ending : Frame → Parser → Step → Buffers → Buffers → Type 0
+Ending frame u r m v = Closes (λ n. position.finish (flat n) kinds.ScopeRoot (shown.frameOf frame)) (frame .first) (frame .node) u m r v
+
+ends-at : {p u : Parser} {frame : Frame} {r : Step} {tree after : List ℕ} (notes : List ℕ)
+    → frame ≡ record { first = p .builder .first; node = p .builder .node } → p ≡ atRoot
+    → ((notes : List ℕ) → Ending frame u r (buffers tree notes) (buffers after notes))
+    → Ending (record { first = 0; node = 0 }) u r (buffers tree notes) (buffers after notes)
 ends-at notes e is k = rw (e, is) at (k notes)
 
 started : (c : tie.After-start-node)
@@ -61,7 +65,8 @@ started : (c : tie.After-start-node)
     (buffers (c .start-node .last .1 .0) (start-node→entry c .args .dropped .now))
 started c = begins-at _ _ _ _ (start-node→entry c .args .dropped .now) (start-node→at-start c .at-start .ensures) (c .start-node .ensures)
 
-begun : (c : tie.After-opened) → Came (opened→entry c) 1 (c .opened .given .0 .0) (opened→start-node c .start-node .last .1 .0) (opened→entry c .args .dropped .now)
+begun : (c : tie.After-opened)
+    → Came (opened→entry c) 1 (c .opened .given .0 .0) (opened→start-node c .start-node .last .1 .0) (opened→entry c .args .dropped .now)
 begun c = roots (entry (opened→entry c)) (started (opened→start-node c)) (c .opened .given .1)
 
 -- the list, a level less
@@ -75,7 +80,9 @@ list-read : (c : tie.After-inside)
 unfolding spec.contentAt
 list-read c = let w = begun (inside→opened c) in below (omega arith) (c .inside .ensures)
 
-listed : (c : tie.After-listed) → Came (listed→entry c) 2 (c .listed .given .0 .0) (listed→inside c .inside .last .1 .1 .1 .1 .0) (listed→inside c .inside .last .1 .1 .1 .1 .1 .0)
+listed : (c : tie.After-listed)
+    → let b = listed→inside c in
+    Came (listed→entry c) 2 (c .listed .given .0 .0) (b .inside .last .1 .1 .1 .1 .0) (b .inside .last .1 .1 .1 .1 .1 .0)
 listed c = passes (begun (listed→opened c)) (list-read (listed→inside c)) (c .listed .given .1)
 
 pub parse-spec : {M : Type 1} → statement M
@@ -103,4 +110,5 @@ parse-spec =
     (λ c. search needs)
     (λ c.
     parsed (listed (returns-3→listed c))
-    (closes (ends-at _ (returns-3→frame c .frame .ensures) (returns-3→at-start c .at-start .ensures) (returns-3→finish-node c .finish-node .ensures)))))
+    (closes
+    (ends-at _ (returns-3→frame c .frame .ensures) (returns-3→at-start c .at-start .ensures) (returns-3→finish-node c .finish-node .ensures)))))

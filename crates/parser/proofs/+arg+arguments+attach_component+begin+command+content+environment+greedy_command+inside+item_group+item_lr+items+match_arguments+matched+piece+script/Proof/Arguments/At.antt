@@ -56,6 +56,15 @@ module _ {t : ℕ} where
   abbrev pub slice-known2→entry : Place lts.After-slice-known2 t → Place lts.Start t
   slice-known2→entry c = c .before .before .before .before .before .before
 
+  abbrev pub peeked→peek : Place lts.After-peeked t → Place lts.After-peek t
+  peeked→peek c = c .before .before
+
+  abbrev pub peeked→at-arguments : Place lts.After-peeked t → Place lts.At-arguments t
+  peeked→at-arguments c = c .before .before .before
+
+  abbrev pub peeked→entry : Place lts.After-peeked t → Place lts.Start t
+  peeked→entry c = c .before .before .before .before .before .before .before .before .before .before
+
   abbrev pub told→peek : Place lts.After-enum-told t → Place lts.After-peek t
   told→peek c = c .before .before
 
@@ -65,11 +74,8 @@ module _ {t : ℕ} where
   abbrev pub then1→peeked : Place lts.Then1 t → Place lts.After-peeked t
   then1→peeked c = c .before .before
 
-  abbrev pub then1→peek : Place lts.Then1 t → Place lts.After-peek t
-  then1→peek c = c .before .before .before .before
-
   abbrev pub then1→at-arguments : Place lts.Then1 t → Place lts.At-arguments t
-  then1→at-arguments c = c .before .before .before .before .before
+  then1→at-arguments c = peeked→at-arguments (then1→peeked c)
 
   abbrev pub word→then1 : Place lts.After-word t → Place lts.Then1 t
   word→then1 c = c .before .before
@@ -78,10 +84,22 @@ module _ {t : ℕ} where
   word→peeked c = then1→peeked (word→then1 c)
 
   abbrev pub word→peek : Place lts.After-word t → Place lts.After-peek t
-  word→peek c = then1→peek (word→then1 c)
+  word→peek c = peeked→peek (word→peeked c)
 
-  abbrev pub loop→at-arguments : Place lts.After-loop t → Place lts.At-arguments t
-  loop→at-arguments c = c .before .before .before .before .before .before .before .before .before
+  abbrev pub at-loop→at-arguments : Place lts.At-loop t → Place lts.At-arguments t
+  at-loop→at-arguments c = c .before .before .before .before .before .before .before .before
+
+  abbrev pub at-loop→entry : Place lts.At-loop t → Place lts.Start t
+  at-loop→entry c = c .before .before .before .before .before .before .before .before .before .before .before .before .before .before .before
+
+  abbrev pub tried→try-match : Place lts.After-tried t → Place lts.After-try-match t
+  tried→try-match c = c .before .before
+
+  abbrev pub tried→at-loop : Place lts.After-tried t → Place lts.At-loop t
+  tried→at-loop c = c .before .before .before .before
+
+  abbrev pub tried→entry : Place lts.After-tried t → Place lts.Start t
+  tried→entry c = at-loop→entry (tried→at-loop c)
 
   abbrev pub told2→try-match : Place lts.After-enum-told2 t → Place lts.After-try-match t
   told2→try-match c = c .before .before
@@ -92,8 +110,8 @@ module _ {t : ℕ} where
   abbrev pub told2→at-loop : Place lts.After-enum-told2 t → Place lts.At-loop t
   told2→at-loop c = c .before .before .before .before
 
-  abbrev pub told2→at-arguments : Place lts.After-enum-told2 t → Place lts.At-arguments t
-  told2→at-arguments c = c .before .before .before .before .before .before .before .before .before .before .before .before
+  abbrev pub char-len→at-loop : Place lts.After-char-len t → Place lts.At-loop t
+  char-len→at-loop c = c .before .before .before .before .before .before
 
   abbrev pub character-arg2→in-loop : Place lts.After-character-arg2 t → Place lts.In-loop t
   character-arg2→in-loop c = c .before .before .before .before .before .before .before
@@ -101,16 +119,8 @@ module _ {t : ℕ} where
   abbrev pub character-arg2→at-loop : Place lts.After-character-arg2 t → Place lts.At-loop t
   character-arg2→at-loop c = c .before .before .before .before .before .before .before .before
 
-  abbrev pub character-arg2→at-arguments : Place lts.After-character-arg2 t → Place lts.At-arguments t
-  character-arg2→at-arguments c = c .before .before .before .before .before .before .before .before .before .before .before .before .before .before
-      .before .before
-
   abbrev pub known-told3→char-len : Place lts.After-known-told3 t → Place lts.After-char-len t
   known-told3→char-len c = c .before .before .before .before .before .before .before .before .before .before
-
-  abbrev pub known-told3→at-loop : Place lts.After-known-told3 t → Place lts.At-loop t
-  known-told3→at-loop c = c .before .before .before .before .before .before .before .before .before .before .before .before .before .before .before
-      .before
 
   abbrev pub again→character : Place lts.After-again t → Place lts.After-character t
   again→character c = c .before .before .before .before .before .before .before
@@ -118,18 +128,11 @@ module _ {t : ℕ} where
   abbrev pub again→tried : Place lts.After-again t → Place lts.After-tried t
   again→tried c = c .before .before .before .before .before .before .before .before .before .before .before .before
 
-  abbrev pub again→try-match : Place lts.After-again t → Place lts.After-try-match t
-  again→try-match c = c .before .before .before .before .before .before .before .before .before .before .before .before .before .before
-
   abbrev pub again→in-loop : Place lts.After-again t → Place lts.In-loop t
   again→in-loop c = c .before .before .before .before .before .before .before .before .before .before .before .before .before .before .before
 
   abbrev pub again→at-loop : Place lts.After-again t → Place lts.At-loop t
-  again→at-loop c = c .before .before .before .before .before .before .before .before .before .before .before .before .before .before .before .before
-
-  abbrev pub again→at-arguments : Place lts.After-again t → Place lts.At-arguments t
-  again→at-arguments c = c .before .before .before .before .before .before .before .before .before .before .before .before .before .before .before
-      .before .before .before .before .before .before .before .before .before
+  again→at-loop c = tried→at-loop (again→tried c)
 
   abbrev pub word2→taken : Place lts.After-word2 t → Place lts.After-taken t
   word2→taken c = c .before .before
@@ -143,19 +146,11 @@ module _ {t : ℕ} where
   abbrev pub word2→tried : Place lts.After-word2 t → Place lts.After-tried t
   word2→tried c = c .before .before .before .before .before .before .before .before .before .before .before .before .before
 
-  abbrev pub word2→try-match : Place lts.After-word2 t → Place lts.After-try-match t
-  word2→try-match c = c .before .before .before .before .before .before .before .before .before .before .before .before .before .before .before
-
   abbrev pub word2→in-loop : Place lts.After-word2 t → Place lts.In-loop t
   word2→in-loop c = c .before .before .before .before .before .before .before .before .before .before .before .before .before .before .before .before
 
   abbrev pub word2→at-loop : Place lts.After-word2 t → Place lts.At-loop t
-  word2→at-loop c = c .before .before .before .before .before .before .before .before .before .before .before .before .before .before .before .before
-      .before
-
-  abbrev pub word2→at-arguments : Place lts.After-word2 t → Place lts.At-arguments t
-  word2→at-arguments c = c .before .before .before .before .before .before .before .before .before .before .before .before .before .before .before
-      .before .before .before .before .before .before .before .before .before .before
+  word2→at-loop c = tried→at-loop (word2→tried c)
 
   abbrev pub scope→else1 : Place lts.After-scope t → Place lts.Else1 t
   scope→else1 c = c .before
@@ -163,20 +158,14 @@ module _ {t : ℕ} where
   abbrev pub choose→peeked : Place lts.After-choose t → Place lts.After-peeked t
   choose→peeked c = c .before .before .before .before
 
-  abbrev pub choose→at-arguments : Place lts.After-choose t → Place lts.At-arguments t
-  choose→at-arguments c = c .before .before .before .before .before .before .before
+  abbrev pub choose→peek : Place lts.After-choose t → Place lts.After-peek t
+  choose→peek c = peeked→peek (choose→peeked c)
 
-  abbrev pub choose→entry : Place lts.After-choose t → Place lts.Start t
-  choose→entry c = c .before .before .before .before .before .before .before .before .before .before .before .before .before .before
+  abbrev pub choose→at-arguments : Place lts.After-choose t → Place lts.At-arguments t
+  choose→at-arguments c = peeked→at-arguments (choose→peeked c)
 
   abbrev pub told4→choose : Place lts.After-enum-told4 t → Place lts.After-choose t
   told4→choose c = c .before .before
-
-  abbrev pub told4→peeked : Place lts.After-enum-told4 t → Place lts.After-peeked t
-  told4→peeked c = choose→peeked (told4→choose c)
-
-  abbrev pub told4→peek : Place lts.After-enum-told4 t → Place lts.After-peek t
-  told4→peek c = c .before .before .before .before .before .before .before .before
 
   abbrev pub told4→at-arguments : Place lts.After-enum-told4 t → Place lts.At-arguments t
   told4→at-arguments c = choose→at-arguments (told4→choose c)
@@ -190,24 +179,17 @@ module _ {t : ℕ} where
   abbrev pub hold-trivia→peeked : Place lts.After-hold-trivia t → Place lts.After-peeked t
   hold-trivia→peeked c = choose→peeked (hold-trivia→choose c)
 
-  abbrev pub hold-trivia→peek : Place lts.After-hold-trivia t → Place lts.After-peek t
-  hold-trivia→peek c = c .before .before .before .before .before .before .before .before .before
-
   abbrev pub hold-trivia→at-arguments : Place lts.After-hold-trivia t → Place lts.At-arguments t
-  hold-trivia→at-arguments c = choose→at-arguments (hold-trivia→choose c)
+  hold-trivia→at-arguments c = peeked→at-arguments (hold-trivia→peeked c)
 
   abbrev pub arg-arg2→peeked : Place lts.After-arg-arg2 t → Place lts.After-peeked t
   arg-arg2→peeked c = c .before .before .before .before .before .before .before .before .before
 
-  abbrev pub arg-arg2→peek : Place lts.After-arg-arg2 t → Place lts.After-peek t
-  arg-arg2→peek c = c .before .before .before .before .before .before .before .before .before .before .before
-
   abbrev pub arg-arg2→at-arguments : Place lts.After-arg-arg2 t → Place lts.At-arguments t
-  arg-arg2→at-arguments c = c .before .before .before .before .before .before .before .before .before .before .before .before
+  arg-arg2→at-arguments c = peeked→at-arguments (arg-arg2→peeked c)
 
   abbrev pub arg-arg2→entry : Place lts.After-arg-arg2 t → Place lts.Start t
-  arg-arg2→entry c = c .before .before .before .before .before .before .before .before .before .before .before .before .before .before .before .before
-      .before .before .before
+  arg-arg2→entry c = peeked→entry (arg-arg2→peeked c)
 
   abbrev pub known-told5→arg : Place lts.After-known-told5 t → Place lts.After-arg t
   known-told5→arg c = c .before .before .before .before .before .before .before
@@ -221,12 +203,8 @@ module _ {t : ℕ} where
   abbrev pub known-told5→peeked : Place lts.After-known-told5 t → Place lts.After-peeked t
   known-told5→peeked c = choose→peeked (known-told5→choose c)
 
-  abbrev pub known-told5→peek : Place lts.After-known-told5 t → Place lts.After-peek t
-  known-told5→peek c = c .before .before .before .before .before .before .before .before .before .before .before .before .before .before .before
-      .before .before .before .before
-
   abbrev pub known-told5→at-arguments : Place lts.After-known-told5 t → Place lts.At-arguments t
-  known-told5→at-arguments c = choose→at-arguments (known-told5→choose c)
+  known-told5→at-arguments c = peeked→at-arguments (known-told5→peeked c)
 
   abbrev pub again2→arg : Place lts.After-again2 t → Place lts.After-arg t
   again2→arg c = c .before .before .before .before .before .before .before
@@ -240,9 +218,5 @@ module _ {t : ℕ} where
   abbrev pub again2→peeked : Place lts.After-again2 t → Place lts.After-peeked t
   again2→peeked c = choose→peeked (again2→choose c)
 
-  abbrev pub again2→peek : Place lts.After-again2 t → Place lts.After-peek t
-  again2→peek c = c .before .before .before .before .before .before .before .before .before .before .before .before .before .before .before .before
-      .before .before .before
-
   abbrev pub again2→at-arguments : Place lts.After-again2 t → Place lts.At-arguments t
-  again2→at-arguments c = choose→at-arguments (again2→choose c)
+  again2→at-arguments c = peeked→at-arguments (again2→peeked c)

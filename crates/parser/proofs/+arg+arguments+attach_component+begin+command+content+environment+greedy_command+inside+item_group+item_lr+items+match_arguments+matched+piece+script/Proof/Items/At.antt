@@ -38,36 +38,35 @@ module _ {t : ℕ} where
   abbrev pub slice-known2→entry : Place lts.After-slice-known2 t → Place lts.Start t
   slice-known2→entry c = c .before .before .before .before .before .before
 
+  abbrev pub at-loop→entry : Place lts.At-loop t → Place lts.Start t
+  at-loop→entry c = c .before .before .before .before .before .before .before
+
+  abbrev pub then1→at-loop : Place lts.Then1 t → Place lts.At-loop t
+  then1→at-loop c = c .before .before
+
+  abbrev pub then1→entry : Place lts.Then1 t → Place lts.Start t
+  then1→entry c = at-loop→entry (then1→at-loop c)
+
   abbrev pub else1→at-loop : Place lts.Else1 t → Place lts.At-loop t
   else1→at-loop c = c .before .before
 
   abbrev pub else1→entry : Place lts.Else1 t → Place lts.Start t
-  else1→entry c = c .before .before .before .before .before .before .before .before .before
+  else1→entry c = at-loop→entry (else1→at-loop c)
 
   abbrev pub content-arg2→then1 : Place lts.After-content-arg2 t → Place lts.Then1 t
   content-arg2→then1 c = c .before .before
 
-  abbrev pub content-arg2→more-items : Place lts.After-content-arg2 t → Place lts.After-more-items t
-  content-arg2→more-items c = c .before .before .before
-
   abbrev pub content-arg2→at-loop : Place lts.After-content-arg2 t → Place lts.At-loop t
-  content-arg2→at-loop c = c .before .before .before .before
+  content-arg2→at-loop c = then1→at-loop (content-arg2→then1 c)
 
   abbrev pub content-arg2→entry : Place lts.After-content-arg2 t → Place lts.Start t
-  content-arg2→entry c = c .before .before .before .before .before .before .before .before .before .before .before
+  content-arg2→entry c = at-loop→entry (content-arg2→at-loop c)
 
   abbrev pub known-told→then1 : Place lts.After-known-told t → Place lts.Then1 t
   known-told→then1 c = c .before .before .before .before .before .before .before .before .before .before
 
-  abbrev pub known-told→more-items : Place lts.After-known-told t → Place lts.After-more-items t
-  known-told→more-items c = c .before .before .before .before .before .before .before .before .before .before .before
-
   abbrev pub known-told→at-loop : Place lts.After-known-told t → Place lts.At-loop t
-  known-told→at-loop c = c .before .before .before .before .before .before .before .before .before .before .before .before
-
-  abbrev pub known-told→entry : Place lts.After-known-told t → Place lts.Start t
-  known-told→entry c = c .before .before .before .before .before .before .before .before .before .before .before .before .before .before .before
-      .before .before .before .before
+  known-told→at-loop c = then1→at-loop (known-told→then1 c)
 
   abbrev pub again→content : Place lts.After-again t → Place lts.After-content t
   again→content c = c .before .before .before .before .before .before .before
@@ -75,15 +74,11 @@ module _ {t : ℕ} where
   abbrev pub again→then1 : Place lts.After-again t → Place lts.Then1 t
   again→then1 c = c .before .before .before .before .before .before .before .before .before .before
 
-  abbrev pub again→more-items : Place lts.After-again t → Place lts.After-more-items t
-  again→more-items c = c .before .before .before .before .before .before .before .before .before .before .before
-
   abbrev pub again→at-loop : Place lts.After-again t → Place lts.At-loop t
-  again→at-loop c = c .before .before .before .before .before .before .before .before .before .before .before .before
+  again→at-loop c = then1→at-loop (again→then1 c)
 
   abbrev pub again→entry : Place lts.After-again t → Place lts.Start t
-  again→entry c = c .before .before .before .before .before .before .before .before .before .before .before .before .before .before .before .before
-      .before .before .before
+  again→entry c = at-loop→entry (again→at-loop c)
 
   abbrev pub behind→read : Place lts.After-behind t → Place lts.After-read t
   behind→read c = c .before .before
@@ -94,12 +89,8 @@ module _ {t : ℕ} where
   abbrev pub behind→then1 : Place lts.After-behind t → Place lts.Then1 t
   behind→then1 c = c .before .before .before .before .before .before .before .before .before .before .before
 
-  abbrev pub behind→more-items : Place lts.After-behind t → Place lts.After-more-items t
-  behind→more-items c = c .before .before .before .before .before .before .before .before .before .before .before .before
-
   abbrev pub behind→at-loop : Place lts.After-behind t → Place lts.At-loop t
-  behind→at-loop c = c .before .before .before .before .before .before .before .before .before .before .before .before .before
+  behind→at-loop c = then1→at-loop (behind→then1 c)
 
   abbrev pub behind→entry : Place lts.After-behind t → Place lts.Start t
-  behind→entry c = c .before .before .before .before .before .before .before .before .before .before .before .before .before .before .before .before
-      .before .before .before .before
+  behind→entry c = at-loop→entry (behind→at-loop c)
