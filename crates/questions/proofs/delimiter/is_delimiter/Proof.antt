@@ -26,7 +26,7 @@ module _ (text tree : List ℕ) (d : Delimiter) {token : Found} where
     outside : isLeaf text tree row ≡ false → false ≡ isDelimiter text d (leafAt tree (foundOf token))
     outside other = rw (is, delimiter-outside text tree row d other)
 
-    -- a leaf inside the text, of this kind
+    -- a leaf inside the text, and the kind that its row names
     module _ (inside : isLeaf text tree row ≡ true) {kind : ℕ} (here : kind ≡ kindAt tree row) where
       other-kind : (kind ≡ d .kind → ⊥) → false ≡ isDelimiter text d (leafAt tree (foundOf token))
       other-kind other = rw (is, delimiter-inside text tree row d inside, ← here, ne-eqb kind (d .kind) other)

@@ -17,7 +17,7 @@ use Rattle.sheets.proofs.lines.tree_line.Statement.{statement}
 use Rattle.sheets.proofs.lines.tree_line.Tie as tie
 
 module _ (tree : List ℕ) (row depth : ℕ) (there : row < rowCount tree) where
-  -- the row's first number, its kind and what follows, and how many these are
+  -- where the row begins; and a line of the depth and the row's numbers, from its kind up to another
   abbrev from : ℕ
   from = row * treeWidth
 
