@@ -13,13 +13,12 @@ use Rattle.rules.specs.Builder.{Builder}
 use Rattle.rules.specs.Cursor.{Cursor, atStart, peek}
 use Rattle.rules.specs.Items.{Item, plain, error, word, comma, group, attachment, command, environment, leftRight, skipped, itemOf, groupKind, closer, Piece, character, within, brace, item, Choice, ends, holds, takes, ifTried, ifMatched, choose, greedyStops, nameOnly, classCommand, classEnvironment}
 use Rattle.rules.specs.Kinds.{isTrivia}
-use Rattle.rules.specs.Limits
 use Rattle.rules.specs.Matcher.{Matcher, Tried, Matched, term, bracket, paren, tryMatch, matchAsTerm, startMatch, isGreedy, formLeft1, formInfixGreedy}
 use Rattle.rules.specs.Matcher
-use Rattle.rules.specs.Outcome.{went, refused, greedyEnvironment, tooManyOpen}
-use Rattle.rules.specs.Position.{Shape, Source, At, Rule, steps, asked, place, withBuilt, start, finish}
+use Rattle.rules.specs.Outcome.{refused, greedyEnvironment, tooManyOpen}
+use Rattle.rules.specs.Position.{Shape, Source, At, Rule, steps, asked, place, start}
 use Rattle.rules.specs.Reading.{shapeHere, lastAfter, items, itemList, itemGroup, piece, argument, chosen, choiceFor, arguments, matchArguments, greedyItems, greedyArgument, greedyCommand, matchedCommand, commandOf, environmentArguments, beginClause, environmentItem, itemLr, script, attachmentAt, attachTo, attachComponent, readItem, contentFor, content, contentAt, parse}
-use Rattle.rules.specs.Routines.{next, turns, ignoreHoldingTrivia, holdTrivia, argumentBegins, argumentEnds, argumentNode}
+use Rattle.rules.specs.Routines.{next, turns, argumentBegins, argumentEnds, argumentNode}
 use Rattle.rules.specs.Scope
 use Rattle.rules.specs.Scope.{Scope, stops, among}
 use Rattle.rules.specs.SyntaxKind

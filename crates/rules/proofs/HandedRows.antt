@@ -10,7 +10,7 @@ use lib.ListN.{length, getD, take, drop, length-append, length-drop, take-append
 use lib.Seq.{take-append-le, drop-append-le, length-take-le, take-all}
 use borrow.Author.Tests.{leb-true, leb-false}
 use Rattle.rules.specs.Builder.{Leaf}
-use Rattle.rules.specs.Cursor.{Cursor, atStart, restStart, restLength, eaten}
+use Rattle.rules.specs.Cursor.{Cursor, atStart, eaten}
 use Rattle.rules.specs.Flat
 use Rattle.rules.specs.Flat.{Rows, Mark, Frame, Built, leafRow, startRow, finishRow, droppedRow, insert, onTree, flat, empty}
 use Rattle.rules.specs.Limits.{treeWidth, droppedWidth, nodes}

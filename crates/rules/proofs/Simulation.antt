@@ -4,7 +4,7 @@
 use Prim.Native.Nat.{ℕ, zero, suc, _+_, _-_, _≤_}
 use mathlib.Core.Path.{_≡_, refl, _∙_}
 use mathlib.Core.Bool.{Bool, true, false, cond}
-use mathlib.Core.List.{List, [], _∷_, _++_}
+use mathlib.Core.List.{[], _∷_, _++_}
 use mathlib.Core.Option.{Option, none, some}
 use native.Mathlib.Nat.{le-step}
 use native.Mathlib.Omega.{arith}
@@ -15,12 +15,11 @@ use Rattle.rules.specs.Cursor.{Cursor, atStart, peek, eaten, consumed, l
 use Rattle.rules.specs.Items.{Item, plain, error, word, comma, group, attachment, command, environment, leftRight, skipped, itemOf, attachableItem, isCommandName, isIf, attachable, groupKind, closer, Piece, character, within, brace, item, Choice, ends, holds, takes, choose, greedyStops, nameOnly, attachableCommand, classCommand, classEnvironment, ofClass}
 use Rattle.rules.specs.Flat.{reasonTrivia, reasonOpener, reasonCloser}
 use Rattle.rules.specs.Kinds.{isTrivia, isTextComponent}
-use Rattle.rules.specs.Limits
 use Rattle.rules.specs.Matcher.{Matcher, startMatch, isGreedy, formLeft1, formInfixGreedy}
 use Rattle.rules.specs.Outcome.{Out, went, refused, bind, greedyEnvironment, tooManyOpen}
 use Rattle.rules.specs.Position.{Shape, Source, At, Rule, place, asked, withLexer, withList, withMarks, holdingNone, leaf, start, startAt, finish, wrap}
 use Rattle.rules.specs.Reading.{items, itemList, itemGroup, piece, argument, chosen, choiceFor, arguments, matchArguments, greedyItems, greedyArgument, greedyCommand, matchedCommand, commandOf, environmentArguments, beginClause, environmentItem, itemLr, script, attachmentAt, attachTo, attachComponent, readItem, contentFor, content, contentAt, parseAt, parse}
-use Rattle.rules.specs.Routines.{eatAs, eat, eatIf, eatWhile, turns, trivia, singleChar, oneIn, dropFrom, ignoreHoldingTrivia, leavesFrom, extractHoldingTrivia, text, delimiterOf, delimiter, clauseLr, dropNext, eatBodyOfIfs, skippedBody, startAround, orElse, left1Command, argumentBegins, argumentEnds, argumentNode, endClause, rightClause}
+use Rattle.rules.specs.Routines.{eatAs, eat, eatIf, eatWhile, turns, trivia, singleChar, oneIn, dropFrom, ignoreHoldingTrivia, leavesFrom, extractHoldingTrivia, text, delimiterOf, delimiter, clauseLr, dropNext, eatBodyOfIfs, skippedBody, startAround, left1Command, argumentBegins, argumentEnds, argumentNode, endClause, rightClause}
 use Rattle.rules.specs.Scope
 use Rattle.rules.specs.Scope.{Scope, stops}
 use Rattle.rules.specs.SyntaxKind

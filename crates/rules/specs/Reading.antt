@@ -17,7 +17,6 @@ use Rattle.rules.specs.Scope
 use Rattle.rules.specs.Scope.{Scope, stops}
 use Rattle.rules.specs.SyntaxKind
 use Rattle.rules.specs.Tables.{kindAt}
-use Rattle.rules.specs.Token
 
 module _ (B : Builder) (source : Source) where
   -- the shape of the next token, where one of this class is asked for
