@@ -1,4 +1,5 @@
--- A loop that eats tokens while their kind passes a test: its invariant is the walk so far, with turns enough for what is left to read. Assumes nothing.
+-- A loop that eats tokens while their kind passes a test: its invariant is the walk so far, with turns enough for what is left to read.
+-- Assumes nothing.
 use mathlib.Core.Path.{_≡_, refl, sym, ap, _∙_}
 use mathlib.Core.Bool.{Bool, true, false}
 use mathlib.Core.List.{List, [], _∷_}
@@ -24,7 +25,9 @@ use Rattle.routines.proofs.Walk.{Rule, line, last-step, two-steps, Walk
 -- where a test of the next token passes, one is there
 pub asked-there : (test : ℕ → Bool) (tokens : List ℕ) (c : Cursor) → asked test (peek tokens c) ≡ true → c .token < tokenCount tokens
 asked-there test tokens c e =
-    ⊎-elim (λ end. let z : _≡_ {A = ℕ} 0 1 = cc (ap (asked test) (peek-none tokens c end)) in absurd (omega arith)) (λ there. there) (le-or-lt (tokenCount tokens) (c .token))
+    ⊎-elim
+    (λ end. let z : _≡_ {A = ℕ} 0 1 = cc (ap (asked test) (peek-none tokens c end)) in absurd (omega arith))
+    (λ there. there) (le-or-lt (tokenCount tokens) (c .token))
 
 -- the rule of the whole loop
 abbrev pub eating : (ℕ → Bool) → RuleOf
@@ -41,11 +44,15 @@ module _ (test : ℕ → Bool) (tokens : List ℕ) (p : Parser) (tree : List ℕ
   abbrev more : Tables → ℕ → Rule
   more t fuel n d = eatWhile (flat n) (sourceOf t) test fuel
 
+  -- from p to q, in the same node
+  abbrev Way : Tables → List Rule → List ℕ → Parser → List ℕ → Type 0
+  Way t rest notes q after = Walk t (λ n d. eating test (sourceOf t) n) rest 0 0 (p .list .scope) p (with-notes tree notes) q (with-notes after notes)
+
   -- the walk so far, to q and `after`, with turns enough for what is left
   pub record Far (t : Tables) (notes : List ℕ) (q : Parser) (after : List ℕ) : Type 0 where
     pub fuel : ℕ
     pub enough : leftOf t q ≤ fuel
-    pub walk : Walk t (λ n d. eating test (sourceOf t) n) (more t fuel ∷ []) 0 0 (p .list .scope) p (with-notes tree notes) q (with-notes after notes)
+    pub walk : Way t (more t fuel ∷ []) notes q after
 
   -- for all tables that agree, and all dropped buffers
   pub record Eating (q : Parser) (after : List ℕ) : Type 0 where
@@ -74,10 +81,10 @@ module _ (test : ℕ → Bool) (tokens : List ℕ) (p : Parser) (tree : List ℕ
       record Turn (t : Tables) (notes : List ℕ) : Type 0 where
         fuel : ℕ
         enough : leftOf t q ≤ suc fuel
-        walk : Walk t (λ n d. eating test (sourceOf t) n) ((λ n d. eat (flat n) (sourceOf t)) ∷ more t fuel ∷ []) 0 0 (p .list .scope) p (with-notes tree notes) q (with-notes after notes)
+        walk : Way t ((λ n d. eat (flat n) (sourceOf t)) ∷ more t fuel ∷ []) notes q after
 
       turn-of : (t : Tables) (notes : List ℕ) → Sees t → (fuel : ℕ) → leftOf t q ≤ fuel
-          → Walk t (λ n d. eating test (sourceOf t) n) (more t fuel ∷ []) 0 0 (p .list .scope) p (with-notes tree notes) q (with-notes after notes) → Turn t notes
+          → Way t (more t fuel ∷ []) notes q after → Turn t notes
       unfolding eatWhile
       turn-of t notes seen zero enough w =
           let there : q .lexer .token < tokenCount (t .tokens) = rw seen (asked-there test tokens (cursorOf (q .lexer)) yes) in
@@ -88,13 +95,15 @@ module _ (test : ℕ → Bool) (tokens : List ℕ) (p : Parser) (tree : List ℕ
           record {
             fuel = fuel;
             enough = enough;
-            walk = turns w (λ n d. last-step (more t (suc fuel)) n d (posOf q (with-notes after notes)) ∙ rw asks (sym (two-steps (λ n d. eat (flat n) (sourceOf t)) (more t fuel) n d (posOf q (with-notes after notes)))));
+            walk = turns w (λ n d. last-step (more t (suc fuel)) n d (posOf q (with-notes after notes))
+                ∙ rw asks (sym (two-steps (λ n d. eat (flat n) (sourceOf t)) (more t fuel) n d (posOf q (with-notes after notes)))));
           }
 
       turn : (t : Tables) (notes : List ℕ) → Sees t → Ready t p (with-notes tree notes) → Turn t notes
       turn t notes seen ready = let f = e .far t notes seen ready in turn-of t notes seen (f .fuel) (f .enough) (f .walk)
 
-      module _ {r : Step} {last : List ℕ} (ate : (notes : List ℕ) → Ran Sees 1 (λ s n. eat (flat n) s) q (with-notes after notes) r (with-notes last notes)) where
+      module _ {r : Step} {last : List ℕ}
+          (ate : (notes : List ℕ) → Ran Sees 1 (λ s n. eat (flat n) s) q (with-notes after notes) r (with-notes last notes)) where
         pub eating-goes-on : {z : Parser} → r ≡ Went z → Eating z last
         eating-goes-on went-on = record {
           far = λ t notes seen ready.
@@ -104,7 +113,8 @@ module _ (test : ℕ → Bool) (tokens : List ℕ) (p : Parser) (tree : List ℕ
               record { fuel = f .fuel; enough = enough-left t notes seen ready went-on; walk = forgets w };
         }
           where
-            enough-left : {z : Parser} (t : Tables) (notes : List ℕ) (seen : Sees t) (ready : Ready t p (with-notes tree notes)) → r ≡ Went z → leftOf t z ≤ turn t notes seen ready .fuel
+            enough-left : {z : Parser} (t : Tables) (notes : List ℕ) (seen : Sees t) (ready : Ready t p (with-notes tree notes)) → r ≡ Went z
+                → leftOf t z ≤ turn t notes seen ready .fuel
             enough-left t notes seen ready went-on =
                 let f = turn t notes seen ready in
                 let l = leaves (f .walk) (ran seen (ate notes)) went-on in
@@ -123,7 +133,8 @@ module _ (test : ℕ → Bool) (tokens : List ℕ) (p : Parser) (tree : List ℕ
         eating-stops st notes = ran-by (λ t seen ready. stops (turn t notes seen ready .walk) (ran seen (ate notes)) st)
 
     module _ (no : asked test (peek tokens (cursorOf (q .lexer))) ≡ false) where
-      ended : (t : Tables) (notes : List ℕ) → Sees t → (fuel : ℕ) → (n d : ℕ) → line (more t fuel ∷ []) n d (posOf q (with-notes after notes)) ≡ line [] n d (posOf q (with-notes after notes))
+      ended : (t : Tables) (notes : List ℕ) → Sees t → (fuel : ℕ) → (n d : ℕ)
+          → line (more t fuel ∷ []) n d (posOf q (with-notes after notes)) ≡ line [] n d (posOf q (with-notes after notes))
       unfolding eatWhile line
       ended t notes seen zero n d = refl
       ended t notes seen (suc fuel) n d = let asks : asked test (peek (t .tokens) (cursorOf (q .lexer))) ≡ false = rw seen no in rw asks

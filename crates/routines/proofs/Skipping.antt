@@ -31,7 +31,8 @@ use Rattle.routines.proofs.Walk.{Rule, line, last-step, two-steps, Walk
 
 -- a token of the body is eaten, whatever it is, and the nesting is what it leaves
 of-body : {A : Type 0} (end-if outer an-if : Bool) (nested : ℕ) (ends : A) (goes : ℕ → A) → not (end-if && outer) ≡ true
-    → cond end-if (cond outer ends (goes (nested - 1))) (cond an-if (goes (nested + 1)) (goes nested)) ≡ goes (cond end-if (nested - 1) (cond an-if (nested + 1) nested))
+    → cond end-if (cond outer ends (goes (nested - 1))) (cond an-if (goes (nested + 1)) (goes nested))
+    ≡ goes (cond end-if (nested - 1) (cond an-if (nested + 1) nested))
 of-body true true an-if nested ends goes e = cc
 of-body true false an-if nested ends goes e = refl
 of-body false outer true nested ends goes e = refl
@@ -114,13 +115,16 @@ module _ (tokens : List ℕ) (p : Parser) (tree notes : List ℕ) where
         walk : Way t ((λ n d. eat (flat n) (sourceOf t)) ∷ more t fuel (nestedBehind nested kind) ∷ []) q after
 
       turn-is : (t : Tables) → Sees t → (fuel n d : ℕ)
-          → more t (suc fuel) nested n d (posOf q (beside notes after)) ≡ bind (eat (flat n) (sourceOf t) (posOf q (beside notes after))) (more t fuel (nestedBehind nested kind) n d)
+          → more t (suc fuel) nested n d (posOf q (beside notes after))
+          ≡ bind (eat (flat n) (sourceOf t) (posOf q (beside notes after))) (more t fuel (nestedBehind nested kind) n d)
       unfolding eatBodyOfIfs
       turn-is t seen fuel n d =
           let next : peek (t .tokens) (cursorOf (q .lexer)) ≡ some kind = rw seen (peek-some tokens (cursorOf (q .lexer)) skipping-there) in
-          rw next (of-body (eqb EndIf kind) (eqb nested 0) (isIf kind) nested _ (λ deep. bind (eat (flat n) (sourceOf t) (posOf q (beside notes after))) (more t fuel deep n d)) skipping-in)
+          rw next (of-body (eqb EndIf kind) (eqb nested 0) (isIf kind) nested _
+          (λ deep. bind (eat (flat n) (sourceOf t) (posOf q (beside notes after))) (more t fuel deep n d)) skipping-in)
 
-      turn-of : (t : Tables) → Sees t → (fuel : ℕ) → leftOf t q ≤ fuel → nested + leftOf t q ≤ leftOf t p → Way t (more t fuel nested ∷ []) q after → Turn t
+      turn-of : (t : Tables) → Sees t → (fuel : ℕ) → leftOf t q ≤ fuel → nested + leftOf t q ≤ leftOf t p → Way t (more t fuel nested ∷ []) q after
+          → Turn t
       turn-of t seen zero enough shallow w =
           let there : q .lexer .token < tokenCount (t .tokens) = rw seen skipping-there in
           let more = left-some (w .ready .steady .fine) there in
@@ -159,7 +163,8 @@ module _ (tokens : List ℕ) (p : Parser) (tree notes : List ℕ) where
             one-deeper false true = omega arith
             one-deeper false false = omega arith
 
-        pub skipping-less : {z : Parser} → Known Sees p (beside notes tree) → r ≡ Went z → left tokens (cursorOf (z .lexer)) < left tokens (cursorOf (q .lexer))
+        pub skipping-less : {z : Parser} → Known Sees p (beside notes tree) → r ≡ Went z
+            → left tokens (cursorOf (z .lexer)) < left tokens (cursorOf (q .lexer))
         skipping-less k went-on = let less = less-left (k .t) (k .seen) (k .ready) went-on in rw (← k .seen) (omega arith)
 
         pub skipping-stops : {any : List ℕ} → Stopped r → Ran Sees 0 skipping p (beside notes tree) r (beside notes any)
@@ -167,10 +172,13 @@ module _ (tokens : List ℕ) (p : Parser) (tree notes : List ℕ) where
 
     -- no token is left
     module _ (none-left : tokenCount tokens ≤ q .lexer .token) where
-      ended : (t : Tables) → Sees t → (fuel n d : ℕ) → line (more t fuel nested ∷ []) n d (posOf q (beside notes after)) ≡ line [] n d (posOf q (beside notes after))
+      ended : (t : Tables) → Sees t → (fuel n d : ℕ)
+          → line (more t fuel nested ∷ []) n d (posOf q (beside notes after)) ≡ line [] n d (posOf q (beside notes after))
       unfolding eatBodyOfIfs line
       ended t seen zero n d = refl
-      ended t seen (suc fuel) n d = let next : peek (t .tokens) (cursorOf (q .lexer)) ≡ none = rw seen (peek-none tokens (cursorOf (q .lexer)) none-left) in rw next
+      ended t seen (suc fuel) n d =
+          let next : peek (t .tokens) (cursorOf (q .lexer)) ≡ none = rw seen (peek-none tokens (cursorOf (q .lexer)) none-left) in
+          rw next
 
       pub skipping-ends : Ran Sees 0 skipping p (beside notes tree) (Went q) (beside notes after)
       skipping-ends = ran-by (λ t seen ready. let f = e .far t seen ready in arrives (turns (f .walk) (ended t seen (f .fuel))))
@@ -181,17 +189,20 @@ module _ (tokens : List ℕ) (p : Parser) (tree notes : List ℕ) where
       not-in = rw (peek-some tokens (cursorOf (q .lexer)) there) at no
 
       closed : (t : Tables) → Sees t → (fuel : ℕ) → leftOf t q ≤ fuel → Ready t q (beside notes after) → (n d : ℕ)
-          → line (more t fuel nested ∷ []) n d (posOf q (beside notes after)) ≡ line ((λ n d. dropNext (flat n) (sourceOf t) reasonCloser) ∷ []) n d (posOf q (beside notes after))
+          → line (more t fuel nested ∷ []) n d (posOf q (beside notes after))
+          ≡ line ((λ n d. dropNext (flat n) (sourceOf t) reasonCloser) ∷ []) n d (posOf q (beside notes after))
       unfolding eatBodyOfIfs line
       closed t seen zero enough ready n d =
           let here : q .lexer .token < tokenCount (t .tokens) = rw seen there in
           let more = left-some (ready .steady .fine) here in
           absurd (omega arith)
       closed t seen (suc fuel) enough ready n d =
-          let next : peek (t .tokens) (cursorOf (q .lexer)) ≡ some (kindAt tokens (q .lexer .token)) = rw seen (peek-some tokens (cursorOf (q .lexer)) there) in
+          let seen-there = peek-some tokens (cursorOf (q .lexer)) there in
+          let next : peek (t .tokens) (cursorOf (q .lexer)) ≡ some (kindAt tokens (q .lexer .token)) = rw seen seen-there in
           rw (next, the-end (eqb EndIf (kindAt tokens (q .lexer .token))) (eqb nested 0) _ _ _ not-in)
 
-      pub skipping-closes : {z : Parser} {last : List ℕ} → Dropped reasonCloser q notes z last → Ran Sees 0 skipping p (beside notes tree) (Went z) (beside last after)
+      pub skipping-closes : {z : Parser} {last : List ℕ} → Dropped reasonCloser q notes z last
+          → Ran Sees 0 skipping p (beside notes tree) (Went z) (beside last after)
       skipping-closes done = ran-less (ran-by (λ t seen ready.
           let f = e .far t seen ready in
           let here : q .lexer .token < tokenCount (t .tokens) = rw seen there in
