@@ -1,6 +1,6 @@
 -- An argument's node: it begins once what is held is dropped, and behind its end nothing is held. Assumes nothing.
 use mathlib.Core.Path.{_≡_, refl, ap, _∙_}
-use mathlib.Core.List.{List, [], _∷_}
+use mathlib.Core.List.{List}
 use Prim.Native.Nat.{ℕ}
 use native.Mathlib.Omega.{arith}
 use Rattle.rules.specs.Flat.{flat, Frame}
@@ -12,9 +12,9 @@ use Rattle.rules.specs.Checks.{Tables, sourceOf}
 use Rattle.builder.specs.Contract.{Fits}
 use Rattle.builder.specs.Stands as shown
 use Rattle.builder.specs.declared.Frame.{Frame as CodeFrame}
-use Rattle.routines.specs.Stands.{Buffers, posOf, outOf}
+use Rattle.routines.specs.Stands.{Buffers, outOf}
 use Rattle.routines.specs.Change.{unheld}
-use Rattle.routines.specs.Contract.{Ready, Ended, Opens, Begins, Closes, Gone, Told, Holding, Ignored, Slice, AtWord, Left-of, buffers}
+use Rattle.routines.specs.Contract.{Ended, Opens, Begins, Closes, Holding, Ignored, Slice, AtWord, Left-of, buffers}
 use Rattle.routines.specs.declared.state.Parser.{Parser}
 use Rattle.routines.specs.declared.state.Step.{Step}
 use Rattle.routines.specs.declared.state.Step.the-variants.{Went}

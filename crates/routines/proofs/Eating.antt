@@ -3,7 +3,7 @@ use mathlib.Core.Path.{_≡_, refl, ap}
 use mathlib.Core.Bool.{Bool, true, false}
 use mathlib.Core.List.{List, [], _∷_}
 use mathlib.Core.Logic.{⊎-elim}
-use Prim.Native.Nat.{ℕ, zero, suc, _≤_, _<_}
+use Prim.Native.Nat.{ℕ, zero, suc, _<_}
 use native.Mathlib.Omega.{arith}
 use lib.ListN.{length}
 use Rattle.rules.specs.Flat.{flat}
@@ -13,9 +13,9 @@ use Rattle.rules.specs.Position.{asked}
 use Rattle.rules.specs.Routines.{eat, eatWhile}
 use Rattle.rules.specs.Tables.{tokenCount}
 use Rattle.lexer.specs.Reading.{cursorOf}
-use Rattle.lexer.proofs.Laws.{peek-none, left-some, le-or-lt}
+use Rattle.lexer.proofs.Laws.{peek-none, le-or-lt}
 use Rattle.routines.specs.Stands.{Buffers, posOf}
-use Rattle.routines.specs.Contract.{Ready, Ran, RuleOf, Somehow, leftOf}
+use Rattle.routines.specs.Contract.{Ready, Ran, RuleOf, Somehow}
 use Rattle.routines.specs.declared.state.Parser.{Parser}
 use Rattle.routines.specs.declared.state.Step.{Step}
 use Rattle.routines.specs.declared.state.Step.the-variants.{Went}

@@ -1,7 +1,7 @@
--- A loop that eats a token in each turn: where it stands is a walk with turns enough for what is left to read, so where a token is next a turn is left.
--- Assumes nothing.
+-- A loop that eats a token in each turn: where it stands is a walk with turns enough for what is left to read, so that where a token
+-- is next a turn is left. Assumes nothing.
 use mathlib.Core.Path.{_≡_, sym, _∙_}
-use mathlib.Core.List.{List, [], _∷_}
+use mathlib.Core.List.{[], _∷_}
 use Prim.Native.Nat.{ℕ, zero, suc, _+_, _≤_, _<_}
 use native.Mathlib.Omega.{arith}
 use Rattle.rules.specs.Outcome.{bind}

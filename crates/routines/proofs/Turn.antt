@@ -1,7 +1,6 @@
 -- How a call ended, for the walk of a routine: said once at the call, and read by every need behind it. Assumes nothing.
 use mathlib.Core.Path.{_≡_, refl, ap, _∙_}
 use native.Mathlib.Omega.{arith}
-use Rattle.rules.specs.Outcome.{Out}
 use Rattle.rules.specs.Limits.{nodes}
 use Rattle.rules.specs.Tables.{tokenCount}
 use mathlib.Core.List.{List, [], _∷_}
@@ -12,11 +11,11 @@ use Rattle.rules.specs.Flat.{flat}
 use Rattle.rules.specs.Position as position
 use Rattle.rules.specs.Position.{Source}
 use Rattle.rules.specs.Routines.{startAround}
-use Rattle.routines.specs.Stands.{Buffers, Here, posOf, outOf, optionOf}
+use Rattle.routines.specs.Stands.{Buffers, posOf, optionOf}
 use Rattle.routines.specs.declared.state.Mark.{Mark}
 use Rattle.builder.specs.Stands as shown
 use Rattle.builder.specs.declared.Frame.{Frame}
-use Rattle.routines.specs.Contract.{Ready, Left, Begun, Ended, Runs, Opens, Begins, Closes, Ran, RuleOf, Told, Gone, buffers}
+use Rattle.routines.specs.Contract.{Ready, Left, Begun, Ended, Runs, Opens, Begins, Closes, Ran, RuleOf, Told, buffers}
 use Rattle.routines.specs.declared.state.Parser.{Parser}
 use Rattle.routines.specs.declared.state.Step.{Step}
 use Rattle.routines.specs.declared.state.Step.the-variants.{Went, Refused}
