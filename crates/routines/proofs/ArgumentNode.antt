@@ -1,6 +1,6 @@
 -- An argument's node: it begins once what is held is dropped, and behind its end nothing is held. Assumes nothing.
 use mathlib.Core.Path.{_≡_, refl, ap, _∙_}
-use mathlib.Core.List.{List, [], _∷_}
+use mathlib.Core.List.{List}
 use Prim.Native.Nat.{ℕ}
 use native.Mathlib.Omega.{arith}
 use Rattle.rules.specs.Flat.{flat, Frame}
@@ -12,9 +12,9 @@ use Rattle.rules.specs.Checks.{Tables, sourceOf}
 use Rattle.builder.specs.Contract.{Fits}
 use Rattle.builder.specs.Stands as shown
 use Rattle.builder.specs.declared.Frame.{Frame as CodeFrame}
-use Rattle.routines.specs.Stands.{Buffers, posOf, outOf}
+use Rattle.routines.specs.Stands.{Buffers, outOf}
 use Rattle.routines.specs.Change.{unheld}
-use Rattle.routines.specs.Contract.{Ready, Ended, Opens, Begins, Closes, Gone, Told, Holding, Ignored, Slice, AtWord, Left-of, buffers}
+use Rattle.routines.specs.Contract.{Ended, Opens, Begins, Closes, Holding, Ignored, Slice, AtWord, Left-of, buffers}
 use Rattle.routines.specs.declared.state.Parser.{Parser}
 use Rattle.routines.specs.declared.state.Step.{Step}
 use Rattle.routines.specs.declared.state.Step.the-variants.{Went}
@@ -35,7 +35,8 @@ ignored-begins {p} {ignored} {after = after} holding dropped starts = record {
 }
 
 -- a state in which what is held was dropped has the same rows
-pub ignored-fits : {p ignored : Parser} {before after tree : List ℕ} → Ignored p before ignored after → Fits (p .builder) tree → Fits (ignored .builder) tree
+pub ignored-fits : {p ignored : Parser} {before after tree : List ℕ} → Ignored p before ignored after → Fits (p .builder) tree
+    → Fits (ignored .builder) tree
 ignored-fits dropped fits = rw (dropped .state) fits
 
 -- a Word that is next is next inside the node too
@@ -55,7 +56,8 @@ module _ (frame : Frame) {p : Parser} {m : Buffers} {r : Step} {v : Buffers} {fi
     told = λ t ready. record { is = stop _ _ _ _ v (finished .told t ready .is) st; gone = stopped _ _ st };
   }
 
-  pub end-unholds : {q z : Parser} → r ≡ Went q → z ≡ unheld q → (s : Source) → Closes (λ n. spec.argumentEnds (flat n) s frame) first node p m (Went z) v
+  pub end-unholds : {q z : Parser} → r ≡ Went q → z ≡ unheld q → (s : Source)
+      → Closes (λ n. spec.argumentEnds (flat n) s frame) first node p m (Went z) v
   unfolding spec.argumentEnds steps
   end-unholds {q} {z} e is s = rw is (record {
     told = λ t ready.
@@ -98,8 +100,14 @@ module _ (frame : Frame) {p : Parser} {m : Buffers} {r : Step} {v : Buffers} {fi
         };
   })
 
+-- its end, where these are the dropped rows
+abbrev Ending : Source → Frame → ℕ → ℕ → Parser → Step → List ℕ → List ℕ → List ℕ → Type 0
+Ending s frame first node p r tree after notes =
+    Closes (λ n. spec.argumentEnds (flat n) s frame) first node p (buffers tree notes) r (buffers after notes)
+
 -- where the code computed the frame
-pub framed : {p : Parser} {tree after : List ℕ} {r : Step} {given : CodeFrame} {first node : ℕ} (s : Source) → given ≡ record { first = first; node = node }
-    → ((notes : List ℕ) → Closes (λ n. spec.argumentEnds (flat n) s (shown.frameOf given)) (given .first) (given .node) p (buffers tree notes) r (buffers after notes))
-    → (notes : List ℕ) → Closes (λ n. spec.argumentEnds (flat n) s (record { first = first; node = node })) first node p (buffers tree notes) r (buffers after notes)
+pub framed : {p : Parser} {tree after : List ℕ} {r : Step} {given : CodeFrame} {first node : ℕ} (s : Source)
+    → given ≡ record { first = first; node = node }
+    → ((notes : List ℕ) → Ending s (shown.frameOf given) (given .first) (given .node) p r tree after notes)
+    → (notes : List ℕ) → Ending s (record { first = first; node = node }) first node p r tree after notes
 framed s e k notes = rw e at (k notes)

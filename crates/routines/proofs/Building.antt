@@ -45,14 +45,16 @@ module _ (p : Parser) (t v notes : List ℕ) where
   goes Q (built.Refused number place) f = tt
 
   -- a routine that ends in `building`
-  pub built-told : {Q : Parser → Type 0} {r : Step} {x : Built} (rule : ℕ → Here → Out Here) (o : Out flat.Rows) → r ≡ buildingOf p x → o ≡ shown.outOf x v
+  pub built-told : {Q : Parser → Type 0} {r : Step} {x : Built} (rule : ℕ → Here → Out Here) (o : Out flat.Rows) → r ≡ buildingOf p x
+      → o ≡ shown.outOf x v
       → rule (length t) (posOf p before) ≡ bind (flat.onTree (posOf p before .built) o) (λ b. went (spec.withBuilt (flat.flat 0) (posOf p before) b))
       → ((u : GreenNodeBuilder) → x ≡ built.Went u → Q (rebuilt p u)) → Told rule Q p before r after
   built-told {Q} {r} {x} rule o e is same f =
       rw e (record { is = same ∙ outcome o x is; gone = goes Q x f })
 
   -- the same tables, lists and tokens, with more rows
-  pub steadier : {tables : Tables} (u : GreenNodeBuilder) → Steady tables p before → told.Fits u v → p .builder .rows ≤ u .rows → u .leaves ≡ p .builder .leaves → Steady tables (rebuilt p u) after
+  pub steadier : {tables : Tables} (u : GreenNodeBuilder) → Steady tables p before → told.Fits u v → p .builder .rows ≤ u .rows
+      → u .leaves ≡ p .builder .leaves → Steady tables (rebuilt p u) after
   steadier u s fits more leaves =
       record {
         good = s .good;
@@ -66,7 +68,8 @@ module _ (p : Parser) (t v notes : List ℕ) where
         light = let bound = s .light in omega arith;
       }
 
-  pub on-the-way : {tables : Tables} (u : GreenNodeBuilder) → length v ≡ length t → drop (u .rows * 4) v ≡ drop (u .rows * 4) t → p .builder .rows ≤ u .rows → u .leaves ≡ p .builder .leaves
+  pub on-the-way : {tables : Tables} (u : GreenNodeBuilder) → length v ≡ length t → drop (u .rows * 4) v ≡ drop (u .rows * 4) t
+      → p .builder .rows ≤ u .rows → u .leaves ≡ p .builder .leaves
       → Passed tables 0 p before (rebuilt p u) after
   on-the-way u long rest more leaves =
       record {
@@ -81,7 +84,8 @@ module _ (p : Parser) (t v notes : List ℕ) where
         light = omega arith;
       }
 
-  pub begun : {tables : Tables} (u : GreenNodeBuilder) → length v ≡ length t → Steady tables p before → facts.Opens (p .builder) t u v → Begun tables p before (rebuilt p u) after
+  pub begun : {tables : Tables} (u : GreenNodeBuilder) → length v ≡ length t → Steady tables p before → facts.Opens (p .builder) t u v
+      → Begun tables p before (rebuilt p u) after
   begun u long s f =
       let rows = f .rows in
       record {
@@ -93,7 +97,8 @@ module _ (p : Parser) (t v notes : List ℕ) where
         lexer = refl;
       }
 
-  pub ended : {tables : Tables} (u : GreenNodeBuilder) (frame : flat.Frame) → length v ≡ length t → Steady tables p before → facts.Closes (p .builder) t frame u v
+  pub ended : {tables : Tables} (u : GreenNodeBuilder) (frame : flat.Frame) → length v ≡ length t → Steady tables p before
+      → facts.Closes (p .builder) t frame u v
       → Ended tables (frame .first) (frame .node) p before (rebuilt p u) after
   ended u frame long s f =
       let rows = f .rows in

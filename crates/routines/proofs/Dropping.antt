@@ -29,7 +29,8 @@ row-free ready there =
     let notes = s .notes in
     record { room = omega arith; token = omega arith; leaves = omega arith }
 
-module _ {t : Tables} {reason : ℕ} {p q : Parser} {tree notes after : List ℕ} (done : Dropped reason p notes q after) (ready : Ready t p (beside notes tree)) (there : p .lexer .token < tokenCount (t .tokens)) where
+module _ {t : Tables} {reason : ℕ} {p q : Parser} {tree notes after : List ℕ} (done : Dropped reason p notes q after)
+    (ready : Ready t p (beside notes tree)) (there : p .lexer .token < tokenCount (t .tokens)) where
   dropped-is : (n : ℕ) → dropNext (flat n) (sourceOf t) reason (posOf p (beside notes tree)) ≡ went (posOf q (beside after tree))
   unfolding dropNext
   dropped-is n = rw (done .is, one-more droppedWidth (p .dropped) notes after _ refl (row-free ready there .room) (done .row))
@@ -75,6 +76,11 @@ module _ {t : Tables} {reason : ℕ} {p q : Parser} {tree notes after : List ℕ
       }
 
 -- the step of a walk
-pub drops : {t : Tables} {reason : ℕ} {p q : Parser} {tree notes after : List ℕ} {lift : ℕ} → Dropped reason p notes q after → p .lexer .token < tokenCount (t .tokens)
-    → Call t (λ n d. dropNext (flat n) (sourceOf t) reason) lift (λ u. Left t 1 p (beside notes tree) u (beside after tree)) p (beside notes tree) (Went q) (beside after tree)
-drops {tree = tree} done there = record { is = λ ready d h. dropped-is done ready there (length tree); gone = λ ready. rw (done .is) (dropped-left done ready there) }
+pub drops : {t : Tables} {reason : ℕ} {p q : Parser} {tree notes after : List ℕ} {lift : ℕ} → Dropped reason p notes q after
+    → p .lexer .token < tokenCount (t .tokens)
+    → Call t (λ n d. dropNext (flat n) (sourceOf t) reason) lift (λ u. Left t 1 p (beside notes tree) u (beside after tree))
+    p (beside notes tree) (Went q) (beside after tree)
+drops {tree = tree} done there = record {
+  is = λ ready d h. dropped-is done ready there (length tree);
+  gone = λ ready. rw (done .is) (dropped-left done ready there);
+}

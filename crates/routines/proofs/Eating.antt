@@ -1,9 +1,9 @@
--- A loop that eats tokens while their kind passes a test: its invariant is the walk so far, with turns enough for what is left to read. Assumes nothing.
-use mathlib.Core.Path.{_≡_, refl, sym, ap, _∙_}
+-- A loop that eats tokens while their kind passes a test: its rule asks the kind, and its turns are those of any loop that eats. Assumes nothing.
+use mathlib.Core.Path.{_≡_, refl, ap}
 use mathlib.Core.Bool.{Bool, true, false}
 use mathlib.Core.List.{List, [], _∷_}
 use mathlib.Core.Logic.{⊎-elim}
-use Prim.Native.Nat.{ℕ, zero, suc, _≤_, _<_}
+use Prim.Native.Nat.{ℕ, zero, suc, _<_}
 use native.Mathlib.Omega.{arith}
 use lib.ListN.{length}
 use Rattle.rules.specs.Flat.{flat}
@@ -13,18 +13,21 @@ use Rattle.rules.specs.Position.{asked}
 use Rattle.rules.specs.Routines.{eat, eatWhile}
 use Rattle.rules.specs.Tables.{tokenCount}
 use Rattle.lexer.specs.Reading.{cursorOf}
-use Rattle.lexer.proofs.Laws.{peek-none, left-some, le-or-lt}
+use Rattle.lexer.proofs.Laws.{peek-none, le-or-lt}
 use Rattle.routines.specs.Stands.{Buffers, posOf}
-use Rattle.routines.specs.Contract.{Ready, Ran, RuleOf, Somehow, leftOf}
+use Rattle.routines.specs.Contract.{Ready, Ran, RuleOf, Somehow}
 use Rattle.routines.specs.declared.state.Parser.{Parser}
 use Rattle.routines.specs.declared.state.Step.{Step}
 use Rattle.routines.specs.declared.state.Step.the-variants.{Went}
-use Rattle.routines.proofs.Walk.{Rule, line, last-step, two-steps, Walk, begins, turns, passes, forgets, leaves, stops, arrives, ran, ran-by, somehow-then, Stopped}
+use Rattle.routines.proofs.Loop.{Far, OneTurn, far-begins, one-turn, less-left, far-goes-on}
+use Rattle.routines.proofs.Walk.{Rule, line, turns, stops, arrives, ran, ran-by, somehow-then, Stopped}
 
 -- where a test of the next token passes, one is there
 pub asked-there : (test : ℕ → Bool) (tokens : List ℕ) (c : Cursor) → asked test (peek tokens c) ≡ true → c .token < tokenCount tokens
 asked-there test tokens c e =
-    ⊎-elim (λ end. let z : _≡_ {A = ℕ} 0 1 = cc (ap (asked test) (peek-none tokens c end)) in absurd (omega arith)) (λ there. there) (le-or-lt (tokenCount tokens) (c .token))
+    ⊎-elim
+    (λ end. let z : _≡_ {A = ℕ} 0 1 = cc (ap (asked test) (peek-none tokens c end)) in absurd (omega arith))
+    (λ there. there) (le-or-lt (tokenCount tokens) (c .token))
 
 -- the rule of the whole loop
 abbrev pub eating : (ℕ → Bool) → RuleOf
@@ -41,24 +44,13 @@ module _ (test : ℕ → Bool) (tokens : List ℕ) (p : Parser) (tree : List ℕ
   abbrev more : Tables → ℕ → Rule
   more t fuel n d = eatWhile (flat n) (sourceOf t) test fuel
 
-  -- the walk so far, to q and `after`, with turns enough for what is left
-  pub record Far (t : Tables) (notes : List ℕ) (q : Parser) (after : List ℕ) : Type 0 where
-    pub fuel : ℕ
-    pub enough : leftOf t q ≤ fuel
-    pub walk : Walk t (λ n d. eating test (sourceOf t) n) (more t fuel ∷ []) 0 0 (p .list .scope) p (with-notes tree notes) q (with-notes after notes)
-
-  -- for all tables that agree, and all dropped buffers
+  -- the walk so far, to q and `after`: for all tables that agree, and all dropped buffers
   pub record Eating (q : Parser) (after : List ℕ) : Type 0 where
-    pub far : (t : Tables) (notes : List ℕ) → Sees t → Ready t p (with-notes tree notes) → Far t notes q after
+    pub far : (t : Tables) (notes : List ℕ) → Sees t → Ready t p (with-notes tree notes)
+        → Far t (λ n d. eating test (sourceOf t) n) (more t) p (with-notes tree notes) q (with-notes after notes)
 
   pub eating-begins : Eating p tree
-  eating-begins = record {
-    far = λ t notes seen ready. record {
-      fuel = leftOf t p;
-      enough = omega arith;
-      walk = begins ready (λ n d. sym (last-step (more t (leftOf t p)) n d (posOf p (with-notes tree notes))));
-    };
-  }
+  eating-begins = record { far = λ t notes seen ready. far-begins ready (λ n d. refl) }
 
   module _ {q : Parser} {after : List ℕ} (e : Eating q after) where
     -- it is ready where the routine began so
@@ -71,59 +63,31 @@ module _ (test : ℕ → Bool) (tokens : List ℕ) (p : Parser) (tree : List ℕ
 
     module _ (yes : asked test (peek tokens (cursorOf (q .lexer))) ≡ true) where
       -- one turn of it: a token is eaten, and then it goes on
-      record Turn (t : Tables) (notes : List ℕ) : Type 0 where
-        fuel : ℕ
-        enough : leftOf t q ≤ suc fuel
-        walk : Walk t (λ n d. eating test (sourceOf t) n) ((λ n d. eat (flat n) (sourceOf t)) ∷ more t fuel ∷ []) 0 0 (p .list .scope) p (with-notes tree notes) q (with-notes after notes)
-
-      turn-of : (t : Tables) (notes : List ℕ) → Sees t → (fuel : ℕ) → leftOf t q ≤ fuel
-          → Walk t (λ n d. eating test (sourceOf t) n) (more t fuel ∷ []) 0 0 (p .list .scope) p (with-notes tree notes) q (with-notes after notes) → Turn t notes
+      turn : (t : Tables) (notes : List ℕ) → Sees t → Ready t p (with-notes tree notes)
+          → OneTurn t (λ n d. eating test (sourceOf t) n) (more t) p (with-notes tree notes) q (with-notes after notes)
       unfolding eatWhile
-      turn-of t notes seen zero enough w =
-          let there : q .lexer .token < tokenCount (t .tokens) = rw seen (asked-there test tokens (cursorOf (q .lexer)) yes) in
-          let some = left-some (w .ready .steady .fine) there in
-          absurd (omega arith)
-      turn-of t notes seen (suc fuel) enough w =
+      turn t notes seen ready =
           let asks : asked test (peek (t .tokens) (cursorOf (q .lexer))) ≡ true = rw seen yes in
-          record {
-            fuel = fuel;
-            enough = enough;
-            walk = turns w (λ n d. last-step (more t (suc fuel)) n d (posOf q (with-notes after notes)) ∙ rw asks (sym (two-steps (λ n d. eat (flat n) (sourceOf t)) (more t fuel) n d (posOf q (with-notes after notes)))));
-          }
+          let there : q .lexer .token < tokenCount (t .tokens) = rw seen (asked-there test tokens (cursorOf (q .lexer)) yes) in
+          one-turn (more t) (more t) there (λ fuel n d. rw asks) (e .far t notes seen ready)
 
-      turn : (t : Tables) (notes : List ℕ) → Sees t → Ready t p (with-notes tree notes) → Turn t notes
-      turn t notes seen ready = let f = e .far t notes seen ready in turn-of t notes seen (f .fuel) (f .enough) (f .walk)
-
-      module _ {r : Step} {last : List ℕ} (ate : (notes : List ℕ) → Ran Sees 1 (λ s n. eat (flat n) s) q (with-notes after notes) r (with-notes last notes)) where
+      module _ {r : Step} {last : List ℕ}
+          (ate : (notes : List ℕ) → Ran Sees 1 (λ s n. eat (flat n) s) q (with-notes after notes) r (with-notes last notes)) where
         pub eating-goes-on : {z : Parser} → r ≡ Went z → Eating z last
-        eating-goes-on went-on = record {
-          far = λ t notes seen ready.
-              let f = turn t notes seen ready in
-              let w = passes (f .walk) (ran seen (ate notes)) went-on in
-              let less = w .passed .read in
-              record { fuel = f .fuel; enough = enough-left t notes seen ready went-on; walk = forgets w };
-        }
-          where
-            enough-left : {z : Parser} (t : Tables) (notes : List ℕ) (seen : Sees t) (ready : Ready t p (with-notes tree notes)) → r ≡ Went z → leftOf t z ≤ turn t notes seen ready .fuel
-            enough-left t notes seen ready went-on =
-                let f = turn t notes seen ready in
-                let l = leaves (f .walk) (ran seen (ate notes)) went-on in
-                let read = l .passed .read in
-                let enough = f .enough in
-                omega arith
+        eating-goes-on went-on = record { far = λ t notes seen ready. far-goes-on (turn t notes seen ready) (ran seen (ate notes)) went-on }
 
         -- and less is left
         pub eating-less : {z : Parser} → Somehow Sees p tree → r ≡ Went z → left tokens (cursorOf (z .lexer)) < left tokens (cursorOf (q .lexer))
         eating-less s went-on =
-            let f = turn (s .t) (s .notes) (s .seen) (s .ready) in
-            let read = leaves (f .walk) (ran (s .seen) (ate (s .notes))) went-on .passed .read in
+            let less = less-left (turn (s .t) (s .notes) (s .seen) (s .ready)) (ran (s .seen) (ate (s .notes))) went-on in
             rw (← s .seen) (omega arith)
 
         pub eating-stops : {any : List ℕ} → Stopped r → (notes : List ℕ) → Ran Sees 0 (eating test) p (with-notes tree notes) r (with-notes any notes)
         eating-stops st notes = ran-by (λ t seen ready. stops (turn t notes seen ready .walk) (ran seen (ate notes)) st)
 
     module _ (no : asked test (peek tokens (cursorOf (q .lexer))) ≡ false) where
-      ended : (t : Tables) (notes : List ℕ) → Sees t → (fuel : ℕ) → (n d : ℕ) → line (more t fuel ∷ []) n d (posOf q (with-notes after notes)) ≡ line [] n d (posOf q (with-notes after notes))
+      ended : (t : Tables) (notes : List ℕ) → Sees t → (fuel : ℕ) → (n d : ℕ)
+          → line (more t fuel ∷ []) n d (posOf q (with-notes after notes)) ≡ line [] n d (posOf q (with-notes after notes))
       unfolding eatWhile line
       ended t notes seen zero n d = refl
       ended t notes seen (suc fuel) n d = let asks : asked test (peek (t .tokens) (cursorOf (q .lexer))) ≡ false = rw seen no in rw asks

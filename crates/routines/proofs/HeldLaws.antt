@@ -1,5 +1,5 @@
--- Held trivia: each token of a range is dropped, or becomes a leaf, in the order of holding; a held token that becomes a leaf adds nothing to the weight.
--- Assumes nothing.
+-- Held trivia: each token of a range is dropped, or becomes a leaf, in the order of holding; a held token that becomes a leaf
+-- adds nothing to the weight. Assumes nothing.
 use mathlib.Core.Path.{_≡_, refl, ap, _∙_}
 use mathlib.Core.List.{List, _++_}
 use Prim.Native.Nat.{ℕ, suc, _+_, _*_, _-_, _≤_, _<_}
@@ -24,7 +24,7 @@ use Rattle.builder.specs.Stands.{rowsOf}
 use Rattle.builder.proofs.Numbers.{one-more, the-rest}
 use Rattle.routines.specs.Stands.{Buffers, Here, posOf, outOf}
 use Rattle.routines.specs.Change.{relexed, unheld}
-use Rattle.routines.specs.Contract.{Ready, Passed, Left, Leafed, Told, Ran, Somehow, Holding, Droppable, Ignored}
+use Rattle.routines.specs.Contract.{Ready, Passed, Left, Leafed, Told, Ran, Somehow, Holding, Droppable, Ignored, buffers}
 use Rattle.routines.specs.declared.state.Parser.{Parser}
 use Rattle.routines.specs.declared.state.Step.{Step}
 use Rattle.routines.specs.declared.state.Step.the-variants.{Went}
@@ -33,8 +33,10 @@ use Rattle.routines.proofs.Walk.{Call, Stopped, stop, stopped, drop-mor
 
 -- the list, and the node that is open, are as they were
 module _ {t : Tables} {gain : ℕ} {p : Parser} {m : Buffers} {q : Parser} {v : Buffers} (ready : Ready t p m) (passed : Passed t gain p m q v) where
-  remains : Fine (t .text) (t .tokens) (cursorOf (q .lexer)) → q .lexer .token ≤ tokenCount (t .tokens) → q .dropped ≤ q .lexer .token → Fits (q .builder) (v .tree)
-      → q .builder .depth ≡ p .builder .depth → q .builder .first ≡ p .builder .first → q .builder .node ≡ p .builder .node → q .list ≡ p .list → Left t gain p m q v
+  remains : Fine (t .text) (t .tokens) (cursorOf (q .lexer)) → q .lexer .token ≤ tokenCount (t .tokens) → q .dropped ≤ q .lexer .token
+      → Fits (q .builder) (v .tree)
+      → q .builder .depth ≡ p .builder .depth → q .builder .first ≡ p .builder .first → q .builder .node ≡ p .builder .node → q .list ≡ p .list
+      → Left t gain p m q v
   remains fine inside few fits depth first node list =
       let s = ready .steady in
       let within = ready .within in
@@ -64,7 +66,8 @@ module _ {t : Tables} {gain : ℕ} {p : Parser} {m : Buffers} {q : Parser} {v : 
 -- ---- a token is held
 
 -- the next one, where there is one
-pub holds : {t : Tables} {p : Parser} {m : Buffers} {r : Parser} {lift : ℕ} → p .lexer .token < tokenCount (t .tokens) → r ≡ relexed p (record { token = p .lexer .token + 1; taken = 0 })
+pub holds : {t : Tables} {p : Parser} {m : Buffers} {r : Parser} {lift : ℕ} → p .lexer .token < tokenCount (t .tokens)
+    → r ≡ relexed p (record { token = p .lexer .token + 1; taken = 0 })
     → Call t (λ n d q. went (holdTrivia (flat n) (sourceOf t) q)) lift (λ q. Left t 1 p m q m) p m (Went r) m
 holds there e = rw e (record {
   is = λ ready d h. refl;
@@ -72,7 +75,17 @@ holds there e = rw e (record {
       let s = ready .steady in
       let less = left-eaten (s .fine) there in
       let few = s .dropped in
-      remains ready (record { tree = refl; notes = refl; tree-long = refl; notes-long = refl; rows = omega arith; dropped = omega arith; token = omega arith; read = omega arith; light = omega arith })
+      remains ready (record {
+        tree = refl;
+        notes = refl;
+        tree-long = refl;
+        notes-long = refl;
+        rows = omega arith;
+        dropped = omega arith;
+        token = omega arith;
+        read = omega arith;
+        light = omega arith;
+      })
       (eaten-fine (s .fine)) (omega arith) (omega arith) (s .fits) refl refl refl refl;
 })
 
@@ -81,14 +94,27 @@ holding-more h = let held = h .held in record { held = omega arith; dropped = h 
 
 -- ---- nothing is held
 
--- nothing is held from now on, and so many rows are dropped
+-- the state with nothing held, and so many rows dropped
+abbrev let-go : Parser → ℕ → Parser
+let-go p count = record { lexer = p .lexer; held = p .lexer .token; list = p .list; builder = p .builder; dropped = count }
+
+-- a routine that comes to it, and writes dropped rows at most
 lets-go : {t : Tables} {p : Parser} {tree before after : List ℕ} (count : ℕ) → p .dropped ≤ count → count ≤ p .lexer .token
-    → drop (count * droppedWidth) after ≡ drop (count * droppedWidth) before → length after ≡ length before → Ready t p (record { tree = tree; dropped = before })
-    → Left t 0 p (record { tree = tree; dropped = before })
-    (record { lexer = p .lexer; held = p .lexer .token; list = p .list; builder = p .builder; dropped = count }) (record { tree = tree; dropped = after })
+    → drop (count * droppedWidth) after ≡ drop (count * droppedWidth) before → length after ≡ length before
+    → Ready t p (buffers tree before) → Left t 0 p (buffers tree before) (let-go p count) (buffers tree after)
 lets-go count more few rest long ready =
     let s = ready .steady in
-    remains ready (record { tree = refl; notes = rest; tree-long = refl; notes-long = long; rows = omega arith; dropped = more; token = omega arith; read = omega arith; light = omega arith })
+    remains ready (record {
+      tree = refl;
+      notes = rest;
+      tree-long = refl;
+      notes-long = long;
+      rows = omega arith;
+      dropped = more;
+      token = omega arith;
+      read = omega arith;
+      light = omega arith;
+    })
     (s .fine) (s .token) few (s .fits) refl refl refl refl
 
 pub holding-none : {t : Tables} {p : Parser} {m : Buffers} → Ready t p m → Holding (unheld p)
@@ -117,7 +143,8 @@ module _ (p : Parser) (before : List ℕ) where
     pub high : i ≤ p .lexer .token
     pub counted : count ≡ p .dropped + (i - p .held)
     pub is : (s : Source) (n : ℕ) (tree : List ℕ)
-        → dropFrom (flat n) s (p .lexer .token - p .held) (p .held) (with-rows tree (p .dropped) before) ≡ dropFrom (flat n) s (p .lexer .token - i) i (with-rows tree count now)
+        → dropFrom (flat n) s (p .lexer .token - p .held) (p .held) (with-rows tree (p .dropped) before)
+        ≡ dropFrom (flat n) s (p .lexer .token - i) i (with-rows tree count now)
     pub rest : drop (count * droppedWidth) now ≡ drop (count * droppedWidth) before
     pub long : length now ≡ length before
 
@@ -136,15 +163,19 @@ module _ (p : Parser) (before : List ℕ) where
         omega arith
 
     -- one turn of it
-    one-row : {v : List ℕ} → i < p .lexer .token → v ≡ take (count * droppedWidth) now ++ (droppedRow i reasonTrivia (p .builder .leaves) ++ drop (count * droppedWidth + droppedWidth) now) → (s : Source) (n : ℕ) (tree : List ℕ)
-        → dropFrom (flat n) s (p .lexer .token - i) i (with-rows tree count now) ≡ dropFrom (flat n) s (p .lexer .token - (i + 1)) (i + 1) (with-rows tree (count + 1) v)
+    one-row : {v : List ℕ} → i < p .lexer .token
+        → v ≡ take (count * droppedWidth) now ++ (droppedRow i reasonTrivia (p .builder .leaves) ++ drop (count * droppedWidth + droppedWidth) now)
+        → (s : Source) (n : ℕ) (tree : List ℕ)
+        → dropFrom (flat n) s (p .lexer .token - i) i (with-rows tree count now)
+        ≡ dropFrom (flat n) s (p .lexer .token - (i + 1)) (i + 1) (with-rows tree (count + 1) v)
     unfolding dropFrom
     one-row {v} more e s n tree =
         let up : p .lexer .token - i ≡ suc (p .lexer .token - (i + 1)) = omega arith in
         rw (up, ← one-more droppedWidth count now v (droppedRow i reasonTrivia (p .builder .leaves)) refl (dropping-room more) e)
 
     pub dropping-goes-on : {v : List ℕ} → i < p .lexer .token → length v ≡ length now
-        → v ≡ take (count * droppedWidth) now ++ (droppedRow i reasonTrivia (p .builder .leaves) ++ drop (count * droppedWidth + droppedWidth) now) → Dropping v (i + 1) (count + 1)
+        → v ≡ take (count * droppedWidth) now ++ (droppedRow i reasonTrivia (p .builder .leaves) ++ drop (count * droppedWidth + droppedWidth) now)
+        → Dropping v (i + 1) (count + 1)
     dropping-goes-on {v} more kept e =
         let low = far .low in
         let counted = far .counted in
@@ -160,8 +191,7 @@ module _ (p : Parser) (before : List ℕ) where
         }
 
     dropped-all : p .lexer .token ≤ i → (s : Source) (n : ℕ) (tree : List ℕ)
-        → ignoreHoldingTrivia (flat n) s (posOf p (record { tree = tree; dropped = before }))
-        ≡ went (posOf (record { lexer = p .lexer; held = p .lexer .token; list = p .list; builder = p .builder; dropped = count }) (record { tree = tree; dropped = now }))
+        → ignoreHoldingTrivia (flat n) s (posOf p (buffers tree before)) ≡ went (posOf (let-go p count) (buffers tree now))
     unfolding ignoreHoldingTrivia dropFrom
     dropped-all end s n tree =
         let none : p .lexer .token - i ≡ 0 = omega arith in
@@ -174,12 +204,12 @@ module _ (p : Parser) (before : List ℕ) where
         let high = far .high in
         let all : i ≡ p .lexer .token = omega arith in
         let count-is : count ≡ p .dropped + (p .lexer .token - p .held) = rw all at (far .counted) in
-        rw e (record { state = ap (λ (n : ℕ). record { lexer = p .lexer; held = p .lexer .token; list = p .list; builder = p .builder; dropped = n }) count-is; is = dropped-all end; rest = far .rest; long = far .long })
+        rw e (record { state = ap (λ (n : ℕ). let-go p n) count-is; is = dropped-all end; rest = far .rest; long = far .long })
 
 -- a routine that drops what is held, as a step of a walk
 pub ignores : {t : Tables} {p : Parser} {tree before : List ℕ} {r : Parser} {after : List ℕ} {lift : ℕ} → Holding p → Ignored p before r after
-    → Call t (λ n d. ignoreHoldingTrivia (flat n) (sourceOf t)) lift (λ q. Left t 0 p (record { tree = tree; dropped = before }) q (record { tree = tree; dropped = after }))
-    p (record { tree = tree; dropped = before }) (Went r) (record { tree = tree; dropped = after })
+    → Call t (λ n d. ignoreHoldingTrivia (flat n) (sourceOf t)) lift (λ q. Left t 0 p (buffers tree before) q (buffers tree after))
+    p (buffers tree before) (Went r) (buffers tree after)
 ignores {t} {p} {tree} h k = record {
   is = λ ready d enough. k .is (sourceOf t) (length tree) tree;
   gone = λ ready.
@@ -205,7 +235,8 @@ module _ (tokens : List ℕ) (p : Parser) (tree : List ℕ) where
   -- so far all before token i are leaves: those from i on are still to be
   pub record Extracting (after : List ℕ) (q : Parser) (i : ℕ) : Type 0 where
     pub is : (t : Tables) (notes : List ℕ) → Sees t
-        → some-leaves t (p .lexer .token - p .held) (p .held) (posOf p (with-notes tree notes)) ≡ some-leaves t (p .lexer .token - i) i (posOf q (with-notes after notes))
+        → some-leaves t (p .lexer .token - p .held) (p .held) (posOf p (with-notes tree notes))
+        ≡ some-leaves t (p .lexer .token - i) i (posOf q (with-notes after notes))
     pub leaves : q .builder .leaves + (p .lexer .token - i) ≤ p .builder .leaves + (p .lexer .token - p .held)
     pub rest : drop (q .builder .rows * treeWidth) after ≡ drop (q .builder .rows * treeWidth) tree
     pub long : length after ≡ length tree
@@ -240,22 +271,34 @@ module _ (tokens : List ℕ) (p : Parser) (tree : List ℕ) where
       let inside : p .lexer .token ≤ tokenCount tokens = rw (s .seen) at (s .ready .steady .token) in
       omega arith
 
+  -- from q a leaf of these numbers was written, whatever its token is
+  abbrev Wrote : Parser → List ℕ → ℕ → ℕ → ℕ → Step → List ℕ → Type 0
+  Wrote q after kind start size r last =
+      (notes : List ℕ) (token : ℕ)
+      → Told (λ n. position.leaf (flat n) (record { token = token; kind = kind; start = start; size = size })) (λ u. Leafed q after u last)
+      q (with-notes after notes) r (with-notes last notes)
+
   module _ {after : List ℕ} {q : Parser} {i : ℕ} (far : Extracting after q i) where
-    module _ (more : i < p .lexer .token) {kind start size : ℕ} (kind-is : kind ≡ leafKind (kindAt tokens i)) (start-is : start ≡ startAt tokens i) (size-is : size ≡ lengthAt tokens i) {r : Step} {last : List ℕ}
-        (wrote : (notes : List ℕ) (token : ℕ) → Told (λ n. position.leaf (flat n) (record { token = token; kind = kind; start = start; size = size })) (λ u. Leafed q after u last) q (with-notes after notes) r (with-notes last notes)) where
+    module _ (more : i < p .lexer .token) {kind start size : ℕ} (kind-is : kind ≡ leafKind (kindAt tokens i)) (start-is : start ≡ startAt tokens i)
+        (size-is : size ≡ lengthAt tokens i) {r : Step} {last : List ℕ}
+        (wrote : Wrote q after kind start size r last) where
       abbrev this : Leaf
       this = record { token = i; kind = kind; start = start; size = size }
+
+      -- it is written, where these are the dropped rows
+      abbrev written : List ℕ → Out Here
+      written notes = position.leaf (flat (length tree)) this (posOf q (with-notes after notes))
 
       -- one turn of it: a leaf, and then it goes on
       turn : (t : Tables) (notes : List ℕ) → Sees t
           → some-leaves t (p .lexer .token - i) i (posOf q (with-notes after notes))
-          ≡ bind (position.leaf (flat (length tree)) this (posOf q (with-notes after notes))) (λ u. some-leaves t (p .lexer .token - (i + 1)) (i + 1) u)
+          ≡ bind (written notes) (λ u. some-leaves t (p .lexer .token - (i + 1)) (i + 1) u)
       unfolding leavesFrom
       turn t notes seen =
           let up : p .lexer .token - i ≡ suc (p .lexer .token - (i + 1)) = omega arith in
           rw (up, kind-is, start-is, size-is, ← seen)
 
-      this-is : (notes : List ℕ) → position.leaf (flat (length tree)) this (posOf q (with-notes after notes)) ≡ outOf r (with-notes last notes)
+      this-is : (notes : List ℕ) → written notes ≡ outOf r (with-notes last notes)
       this-is notes = rw (far .long) at (wrote notes i .is)
 
       pub extracting-goes-on : {z : Parser} → length last ≡ length after → r ≡ Went z → Extracting last z (i + 1)
@@ -267,7 +310,8 @@ module _ (tokens : List ℕ) (p : Parser) (tree : List ℕ) where
           let higher = w .rows in
           record {
             is = λ t notes seen.
-                let went-is : position.leaf (flat (length tree)) this (posOf q (with-notes after notes)) ≡ went (posOf z (with-notes last notes)) = this-is notes ∙ ap (λ (y : Step). outOf y (with-notes last notes)) e in
+                let to-went = ap (λ (y : Step). outOf y (with-notes last notes)) e in
+                let went-is : written notes ≡ went (posOf z (with-notes last notes)) = this-is notes ∙ to-went in
                 far .is t notes seen ∙ turn t notes seen ∙ rw went-is;
             leaves = omega arith;
             rest = w .rest ∙ drop-more (q .builder .rows * treeWidth) (z .builder .rows * treeWidth) after tree (omega arith) (far .rest);
@@ -282,7 +326,8 @@ module _ (tokens : List ℕ) (p : Parser) (tree : List ℕ) where
             dropped = w .dropped ∙ far .dropped;
           }
 
-      pub extracting-stops : {any : List ℕ} → Stopped r → (notes : List ℕ) → Ran Sees 0 (λ s n. extractHoldingTrivia (flat n) s) p (with-notes tree notes) r (with-notes any notes)
+      pub extracting-stops : {any : List ℕ} → Stopped r → (notes : List ℕ)
+          → Ran Sees 0 (λ s n. extractHoldingTrivia (flat n) s) p (with-notes tree notes) r (with-notes any notes)
       unfolding extractHoldingTrivia
       extracting-stops st notes = record {
         told = λ t seen ready. record {
@@ -299,7 +344,8 @@ module _ (tokens : List ℕ) (p : Parser) (tree : List ℕ) where
         let all = rw none at (far .is t notes seen) in
         rw all
 
-    pub extracting-ends : {u : Parser} → p .lexer .token ≤ i → u ≡ unheld q → (notes : List ℕ) → Ran Sees 0 (λ s n. extractHoldingTrivia (flat n) s) p (with-notes tree notes) (Went u) (with-notes after notes)
+    pub extracting-ends : {u : Parser} → p .lexer .token ≤ i → u ≡ unheld q → (notes : List ℕ)
+        → Ran Sees 0 (λ s n. extractHoldingTrivia (flat n) s) p (with-notes tree notes) (Went u) (with-notes after notes)
     extracting-ends end e notes = rw e (record {
       told = λ t seen ready.
           let s = ready .steady in
@@ -311,7 +357,17 @@ module _ (tokens : List ℕ) (p : Parser) (tree : List ℕ) where
           let few = s .dropped in
           record {
             is = extracted end t notes seen;
-            gone = remains ready (record { tree = far .rest; notes = refl; tree-long = far .long; notes-long = refl; rows = rows; dropped = omega arith; token = omega arith; read = rw lexer (omega arith); light = rw lexer (omega arith) })
+            gone = remains ready (record {
+              tree = far .rest;
+              notes = refl;
+              tree-long = far .long;
+              notes-long = refl;
+              rows = rows;
+              dropped = omega arith;
+              token = omega arith;
+              read = rw lexer (omega arith);
+              light = rw lexer (omega arith);
+            })
                 (rw lexer (s .fine)) (rw lexer (s .token)) (omega arith) (far .fits) (far .depth) (far .first) (far .node) (far .list);
           };
     })

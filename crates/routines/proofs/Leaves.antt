@@ -30,6 +30,10 @@ use Rattle.routines.specs.declared.state.Step.the-variants.{Went}
 use Rattle.routines.proofs.Building.{mark-more}
 use Rattle.routines.proofs.Walk.{Stopped, stop, stopped}
 
+-- a leaf, and then the cursor stands elsewhere
+abbrev pub leaf-then : Leaf → (Cursor → Cursor) → ℕ → Here → Out Here
+leaf-then leaf next n q = bind (position.leaf (flat n) leaf q) (λ u. went (position.withLexer (flat n) (next (u .lexer)) u))
+
 -- where the cursor moves to: a fine one further on
 pub record Onward (t : Tables) (p : Parser) (to : Cursor) : Type 0 where
   pub fine : Fine (t .text) (t .tokens) to
@@ -46,7 +50,8 @@ module _ (t : Tables) (p : Parser) (tree after notes : List ℕ) (ready : Ready 
   behind = record { tree = after; dropped = notes }
 
   -- the leaf was written, and the cursor moved
-  moved : (q : Parser) (l : Lexer) → Leafed p tree q after → length after ≡ length tree → Onward t p (cursorOf l) → Left t 1 p before (relexed q l) behind
+  moved : (q : Parser) (l : Lexer) → Leafed p tree q after → length after ≡ length tree → Onward t p (cursorOf l)
+      → Left t 1 p before (relexed q l) behind
   moved q l w long on =
       let s = ready .steady in
       let rows = w .rows in
@@ -93,21 +98,26 @@ module _ (t : Tables) (p : Parser) (tree after notes : List ℕ) (ready : Ready 
 
   -- the rule: a leaf, and then the cursor stands elsewhere
   module _ (leaf : Leaf) (next : Cursor → Cursor) (rule : ℕ → Here → Out Here)
-      (is : (n : ℕ) → rule n (posOf p before) ≡ bind (position.leaf (flat n) leaf (posOf p before)) (λ q. went (position.withLexer (flat n) (next (q .lexer)) q))) where
-    pub leaf-stops : {r : Step} {x : Buffers} {Q : Parser → Type 0} → Told (λ n. position.leaf (flat n) leaf) Q p before r behind → Stopped r → Told rule (λ q. Left t 1 p before q x) p before r x
+      (is : (n : ℕ) → rule n (posOf p before) ≡ leaf-then leaf next n (posOf p before)) where
+    pub leaf-stops : {r : Step} {x : Buffers} {Q : Parser → Type 0} → Told (λ n. position.leaf (flat n) leaf) Q p before r behind → Stopped r
+        → Told rule (λ q. Left t 1 p before q x) p before r x
     leaf-stops {x} k st = record { is = is (length tree) ∙ stop _ _ _ _ x (k .is) st; gone = stopped _ _ st }
 
-    pub leaf-goes-on : {r : Step} {q : Parser} {z : Parser} (l : Lexer) → Told (λ n. position.leaf (flat n) leaf) (λ u. Leafed p tree u after) p before r behind → r ≡ Went q
-        → z ≡ relexed q l → cursorOf l ≡ next (cursorOf (q .lexer)) → length after ≡ length tree → Onward t p (cursorOf l) → Told rule (λ u. Left t 1 p before u behind) p before (Went z) behind
+    pub leaf-goes-on : {r : Step} {q : Parser} {z : Parser} (l : Lexer)
+        → Told (λ n. position.leaf (flat n) leaf) (λ u. Leafed p tree u after) p before r behind → r ≡ Went q
+        → z ≡ relexed q l → cursorOf l ≡ next (cursorOf (q .lexer)) → length after ≡ length tree → Onward t p (cursorOf l)
+        → Told rule (λ u. Left t 1 p before u behind) p before (Went z) behind
     leaf-goes-on {r} {q} l k e ez moves long on =
-        let went-is : position.leaf (flat (length tree)) leaf (posOf p before) ≡ went (posOf q behind) = k .is ∙ ap (λ (y : Step). outOf y behind) e in
+        let to-went = ap (λ (y : Step). outOf y behind) e in
+        let went-is : position.leaf (flat (length tree)) leaf (posOf p before) ≡ went (posOf q behind) = k .is ∙ to-went in
         let w : Leafed p tree q after = rw e at (k .gone) in
         rw ez (record { is = is (length tree) ∙ rw (went-is, ← moves); gone = moved q l w long on })
 
 -- ---- the token that is next
 
 -- what the functions ask that look at its row
-pub here-of : {tokens tree : List ℕ} {p : Parser} → Somehow (λ t. t .tokens ≡ tokens) p tree → p .lexer .token < tokenCount tokens → row.Here tokens (cursorOf (p .lexer))
+pub here-of : {tokens tree : List ℕ} {p : Parser} → Somehow (λ t. t .tokens ≡ tokens) p tree → p .lexer .token < tokenCount tokens
+    → row.Here tokens (cursorOf (p .lexer))
 here-of {tokens} {p = p} s there =
     let fine : Fine (s .t .text) tokens (cursorOf (p .lexer)) = rw (s .seen) at (s .ready .steady .fine) in
     here fine there
@@ -120,46 +130,59 @@ small-token s =
     omega arith
 
 -- it is passed whole
-pub onward-eaten : {t : Tables} {p : Parser} {m : Buffers} {l : Lexer} → Ready t p m → p .lexer .token < tokenCount (t .tokens) → cursorOf l ≡ eaten (cursorOf (p .lexer)) → Onward t p (cursorOf l)
+pub onward-eaten : {t : Tables} {p : Parser} {m : Buffers} {l : Lexer} → Ready t p m → p .lexer .token < tokenCount (t .tokens)
+    → cursorOf l ≡ eaten (cursorOf (p .lexer)) → Onward t p (cursorOf l)
 onward-eaten {t} {p} ready there e =
     let fine = ready .steady .fine in
     let less = left-eaten fine there in
     rw e (record { fine = eaten-fine fine; token = omega arith; near = omega arith; inside = omega arith; less = less })
 
 -- `eat_as` as a leaf and a step of the cursor
-pub eat-as-is : (t : Tables) (tokens : List ℕ) (p : Parser) (m : Buffers) (kind start size : ℕ) → t .tokens ≡ tokens → start ≡ restStart tokens (cursorOf (p .lexer)) → size ≡ restLength tokens (cursorOf (p .lexer)) → (n : ℕ)
+pub eat-as-is : (t : Tables) (tokens : List ℕ) (p : Parser) (m : Buffers) (kind start size : ℕ) → t .tokens ≡ tokens
+    → start ≡ restStart tokens (cursorOf (p .lexer)) → size ≡ restLength tokens (cursorOf (p .lexer)) → (n : ℕ)
     → eatAs (flat n) (sourceOf t) kind (posOf p m)
-    ≡ bind (position.leaf (flat n) (record { token = p .lexer .token; kind = kind; start = start; size = size }) (posOf p m)) (λ q. went (position.withLexer (flat n) (eaten (q .lexer)) q))
+    ≡ leaf-then (record { token = p .lexer .token; kind = kind; start = start; size = size }) eaten n (posOf p m)
 unfolding eatAs
 eat-as-is t tokens p m kind start size seen start-is size-is n = rw (seen, start-is, size-is)
 
 -- writing a leaf moves no cursor
-pub same-lexer : {rule : ℕ → Here → Out Here} {p q : Parser} {tree after : List ℕ} {m v : Buffers} {r : Step} → Told rule (λ u. Leafed p tree u after) p m r v → r ≡ Went q → q .lexer ≡ p .lexer
+pub same-lexer : {rule : ℕ → Here → Out Here} {p q : Parser} {tree after : List ℕ} {m v : Buffers} {r : Step}
+    → Told rule (λ u. Leafed p tree u after) p m r v → r ≡ Went q → q .lexer ≡ p .lexer
 same-lexer {p = p} {q} {tree} {after} k e = let w : Leafed p tree q after = rw e at (k .gone) in w .lexer
 
 -- ---- one character of a Word is passed
 
 -- the same tables and buffers, of which less is seen
-pub seen-less : {sees less : Tables → Type 0} {p : Parser} {tree : List ℕ} → ((t : Tables) → sees t → less t) → Somehow sees p tree → Somehow less p tree
+pub seen-less : {sees less : Tables → Type 0} {p : Parser} {tree : List ℕ} → ((t : Tables) → sees t → less t) → Somehow sees p tree
+    → Somehow less p tree
 seen-less f s = record { t = s .t; notes = s .notes; seen = f (s .t) (s .seen); ready = s .ready }
 
+-- from one token to the same or to the next, and no further than the end
+abbrev Near : List ℕ → ℕ → ℕ → Type 0
+Near tokens from to = (from ≤ to) × (to ≤ from + 1) × (to ≤ tokenCount tokens)
+
 -- a step within a token or over it goes no further than the end
-consumed-inside : (tokens : List ℕ) (count : ℕ) (c : Cursor) → c .token < tokenCount tokens → (c .token ≤ consumed tokens count c .token) × (consumed tokens count c .token ≤ c .token + 1) × (consumed tokens count c .token ≤ tokenCount tokens)
+consumed-inside : (tokens : List ℕ) (count : ℕ) (c : Cursor) → c .token < tokenCount tokens
+    → Near tokens (c .token) (consumed tokens count c .token)
 consumed-inside tokens count c there =
-    ⊎-elim (λ all. rw (consumed-all tokens count c all) (omega arith, omega arith, omega arith)) (λ more. rw (consumed-part tokens count c more) (omega arith, omega arith, omega arith))
+    ⊎-elim (λ all. rw (consumed-all tokens count c all) (omega arith, omega arith, omega arith))
+    (λ more. rw (consumed-part tokens count c more) (omega arith, omega arith, omega arith))
     (le-or-lt (restLength tokens c) count)
 
-pub onward-char : {t : Tables} {p : Parser} {m : Buffers} {l : Lexer} → Ready t p m → p .lexer .token < tokenCount (t .tokens) → kindAt (t .tokens) (p .lexer .token) ≡ Token.Word
-    → cursorOf l ≡ consumed (t .tokens) (charLength (peekText (t .text) (t .tokens) (cursorOf (p .lexer)))) (cursorOf (p .lexer)) → Onward t p (cursorOf l)
+pub onward-char : {t : Tables} {p : Parser} {m : Buffers} {l : Lexer} → Ready t p m → p .lexer .token < tokenCount (t .tokens)
+    → kindAt (t .tokens) (p .lexer .token) ≡ Token.Word
+    → cursorOf l ≡ consumed (t .tokens) (charLength (peekText (t .text) (t .tokens) (cursorOf (p .lexer)))) (cursorOf (p .lexer))
+    → Onward t p (cursorOf l)
 onward-char {t} {p} ready there word e =
     let fine = ready .steady .fine in
     let inside = consumed-inside (t .tokens) (charLength (peekText (t .text) (t .tokens) (cursorOf (p .lexer)))) (cursorOf (p .lexer)) there in
     rw e (record { fine = char-fine fine there word; token = inside .0; near = inside .1; inside = inside .2; less = char-left fine there word })
 
 -- `single_char` as a leaf and a step of the cursor
-pub single-char-is : (t : Tables) (tokens word : List ℕ) (p : Parser) (m : Buffers) (start size : ℕ) → t .tokens ≡ tokens → word ≡ peekText (t .text) tokens (cursorOf (p .lexer)) → start ≡ restStart tokens (cursorOf (p .lexer))
+pub single-char-is : (t : Tables) (tokens word : List ℕ) (p : Parser) (m : Buffers) (start size : ℕ) → t .tokens ≡ tokens
+    → word ≡ peekText (t .text) tokens (cursorOf (p .lexer)) → start ≡ restStart tokens (cursorOf (p .lexer))
     → size ≡ charLength word → (n : ℕ)
     → singleChar (flat n) (sourceOf t) (posOf p m)
-    ≡ bind (position.leaf (flat n) (record { token = p .lexer .token; kind = TokenWord; start = start; size = size }) (posOf p m)) (λ q. went (position.withLexer (flat n) (consumed tokens size (q .lexer)) q))
+    ≡ leaf-then (record { token = p .lexer .token; kind = TokenWord; start = start; size = size }) (consumed tokens size) n (posOf p m)
 unfolding singleChar
 single-char-is t tokens word p m start size seen word-is start-is size-is n = rw (seen, start-is, size-is, word-is)

@@ -3,6 +3,7 @@ pub mod Building
 pub mod Walk
 pub mod Asked
 pub mod Leaves
+pub mod Loop
 pub mod Eating
 pub mod HeldLaws
 pub mod Outside

@@ -1,4 +1,5 @@
--- Marks as the code hands them on, and as the state keeps them. Assumes nothing.
+-- Marks as the code hands them on, and as the state keeps them: both stand for the same mark of the rules, by whether the kept row is 0.
+-- Assumes nothing.
 use mathlib.Core.Path.{_≡_, refl, sym, ap₂, _∙_}
 use mathlib.Core.Bool.{Bool, true, false, cond}
 use Prim.Native.Nat.{ℕ}

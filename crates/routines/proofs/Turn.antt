@@ -1,7 +1,6 @@
 -- How a call ended, for the walk of a routine: said once at the call, and read by every need behind it. Assumes nothing.
 use mathlib.Core.Path.{_≡_, refl, ap, _∙_}
 use native.Mathlib.Omega.{arith}
-use Rattle.rules.specs.Outcome.{Out}
 use Rattle.rules.specs.Limits.{nodes}
 use Rattle.rules.specs.Tables.{tokenCount}
 use mathlib.Core.List.{List, [], _∷_}
@@ -12,11 +11,11 @@ use Rattle.rules.specs.Flat.{flat}
 use Rattle.rules.specs.Position as position
 use Rattle.rules.specs.Position.{Source}
 use Rattle.rules.specs.Routines.{startAround}
-use Rattle.routines.specs.Stands.{Buffers, Here, posOf, outOf, optionOf}
+use Rattle.routines.specs.Stands.{Buffers, posOf, optionOf}
 use Rattle.routines.specs.declared.state.Mark.{Mark}
 use Rattle.builder.specs.Stands as shown
 use Rattle.builder.specs.declared.Frame.{Frame}
-use Rattle.routines.specs.Contract.{Ready, Left, Begun, Ended, Runs, Opens, Begins, Closes, Ran, RuleOf, Told, Gone, buffers}
+use Rattle.routines.specs.Contract.{Ready, Left, Begun, Ended, Runs, Opens, Begins, Closes, Ran, RuleOf, Told, buffers}
 use Rattle.routines.specs.declared.state.Parser.{Parser}
 use Rattle.routines.specs.declared.state.Step.{Step}
 use Rattle.routines.specs.declared.state.Step.the-variants.{Went, Refused}
@@ -24,15 +23,22 @@ use Rattle.routines.proofs.Walk.{Rule, Walk, Call, call-is, last-step, 
 
 -- ---- a node's start and its end, where the code computed the kind and the frame
 
+-- a node's end, whatever the dropped buffer holds
+abbrev Finishing : ℕ → Frame → Parser → Step → List ℕ → List ℕ → Type 0
+Finishing kind frame u r tree after =
+    (notes : List ℕ)
+    → Closes (λ n. position.finish (flat n) kind (shown.frameOf frame)) (frame .first) (frame .node) u (buffers tree notes) r (buffers after notes)
+
 module _ {t : Tables} {kind given : ℕ} {u : Parser} {r : Step} {tree after notes : List ℕ} {lift : ℕ} where
   pub starts : given ≡ kind → ((notes : List ℕ) → Opens (λ n. position.start (flat n) given) u (buffers tree notes) r (buffers after notes))
-      → Call t (λ n d. position.start (flat n) kind) lift (λ q. Begun t u (buffers tree notes) q (buffers after notes)) u (buffers tree notes) r (buffers after notes)
+      → Call t (λ n d. position.start (flat n) kind) lift (λ q. Begun t u (buffers tree notes) q (buffers after notes))
+      u (buffers tree notes) r (buffers after notes)
   starts e k = opens (rw e at (k notes))
 
   pub finishes : {frame : Frame} {first node : ℕ} → given ≡ kind → frame ≡ record { first = first; node = node }
-      → ((notes : List ℕ) → Closes (λ n. position.finish (flat n) given (shown.frameOf frame)) (frame .first) (frame .node) u (buffers tree notes) r (buffers after notes))
-      → Call t (λ n d. position.finish (flat n) kind (record { first = first; node = node })) lift (λ q. Ended t first node u (buffers tree notes) q (buffers after notes))
-      u (buffers tree notes) r (buffers after notes)
+      → Finishing given frame u r tree after
+      → Call t (λ n d. position.finish (flat n) kind (record { first = first; node = node })) lift
+      (λ q. Ended t first node u (buffers tree notes) q (buffers after notes)) u (buffers tree notes) r (buffers after notes)
   finishes e f k = closes (rw (e, f) at (k notes))
 
 -- a node that begins around what stands from a mark on, where the code computed the mark
@@ -48,14 +54,17 @@ pub begins-in : {t : Tables} {rule : RuleOf} {u : Parser} {v : Buffers} {r : Ste
 begins-in {t} k = record { is = λ ready d h. k .told t ready .is; gone = λ ready. k .told t ready .gone }
 
 -- a routine that was given what the code computed
-pub ran-at : {X : Type 0} (rule : X → RuleOf) {t : Tables} {sees : Tables → Type 0} {gain : ℕ} {x y : X} {u : Parser} {r : Step} {tree after notes : List ℕ} {lift : ℕ}
+pub ran-at : {X : Type 0} (rule : X → RuleOf) {t : Tables} {sees : Tables → Type 0} {gain : ℕ} {x y : X}
+    → {u : Parser} {r : Step} {tree after notes : List ℕ} {lift : ℕ}
     → sees t → y ≡ x → ((notes : List ℕ) → Ran sees gain (rule y) u (buffers tree notes) r (buffers after notes))
-    → Call t (λ n d. rule x (sourceOf t) n) lift (λ q. Left t gain u (buffers tree notes) q (buffers after notes)) u (buffers tree notes) r (buffers after notes)
+    → Call t (λ n d. rule x (sourceOf t) n) lift (λ q. Left t gain u (buffers tree notes) q (buffers after notes))
+    u (buffers tree notes) r (buffers after notes)
 ran-at rule {notes = notes} seen e k = ran seen (rw e at (k notes))
 
 -- a node's start reads nothing: what was next is next in the node
 pub still-next : {t : Tables} {f : Rule} {u : Parser} {v : Buffers} {r : Step} {x : Buffers} {z : Parser}
-    → Ready t u v → Call t f 0 (λ q. Begun t u v q x) u v r x → r ≡ Went z → u .lexer .token < tokenCount (t .tokens) → z .lexer .token < tokenCount (t .tokens)
+    → Ready t u v → Call t f 0 (λ q. Begun t u v q x) u v r x → r ≡ Went z → u .lexer .token < tokenCount (t .tokens)
+    → z .lexer .token < tokenCount (t .tokens)
 still-next {t} {u = u} {v} {x = x} {z} ready k e next =
     let begun : Begun t u v z x = rw e at (k .gone ready) in
     rw (begun .lexer) next
@@ -63,8 +72,10 @@ still-next {t} {u = u} {v} {x = x} {z} ready k e next =
 -- ---- a node is ended before the last step
 
 -- the callee went, and ended the node that the routine opened: it is in its own again
-pub leaves-node : {t : Tables} {rule f : Rule} {rest : List Rule} {gain : ℕ} {scope : ℕ} {s : Parser} {m : Buffers} {u : Parser} {v : Buffers} {r : Step} {x : Buffers} {z : Parser}
-    → Ready t s m → Walk t rule (f ∷ rest) gain 1 scope s m u v → Call t f 1 (λ q. Ended t (s .builder .first) (s .builder .node) u v q x) u v r x → r ≡ Went z
+pub leaves-node : {t : Tables} {rule f : Rule} {rest : List Rule} {gain scope : ℕ} {s : Parser} {m : Buffers}
+    → {u : Parser} {v : Buffers} {r : Step} {x : Buffers} {z : Parser}
+    → Ready t s m → Walk t rule (f ∷ rest) gain 1 scope s m u v → Call t f 1 (λ q. Ended t (s .builder .first) (s .builder .node) u v q x) u v r x
+    → r ≡ Went z
     → Walk t rule rest gain 0 scope s m z x
 leaves-node {gain = gain} ready w k e =
     let ended = leaves w k e in
@@ -88,30 +99,48 @@ leaves-node {gain = gain} ready w k e =
 -- ---- a turn
 
 -- it was refused, and so is the routine; or it went, and `rest` is left. Either way the buffers are as long as at the entry
-pub record Turn (t : Tables) (rule : Rule) (rest : List Rule) (gain lift : ℕ) (scope : ℕ) (s : Parser) (m : Buffers) (r : Step) (x : Buffers) : Type 0 where
+pub record Turn (t : Tables) (rule : Rule) (rest : List Rule) (gain lift scope : ℕ) (s : Parser) (m : Buffers) (r : Step) (x : Buffers) : Type 0 where
   pub refused : {any : ℕ} → Stopped r → Runs t any (λ n d. rule n d (posOf s m)) s m r x
   pub went : {z : Parser} → r ≡ Went z → Walk t rule rest gain lift scope s m z x
   pub tree-long : length (x .tree) ≡ length (m .tree)
   pub notes-long : length (x .dropped) ≡ length (m .dropped)
 
-module _ {t : Tables} {rule f : Rule} {rest : List Rule} {gain : ℕ} {scope : ℕ} {s : Parser} {m : Buffers} {u : Parser} {v : Buffers} {r : Step} {x : Buffers} where
+module _ {t : Tables} {rule f : Rule} {rest : List Rule} {gain : ℕ} {scope : ℕ} {s : Parser} {m : Buffers} {u : Parser} {v : Buffers} {r : Step}
+    {x : Buffers} where
   -- a callee that leaves the node as it was
   pub calls : {lift more : ℕ} (w : Walk t rule (f ∷ rest) gain lift scope s m u v) → Call t f lift (λ q. Left t more u v q x) u v r x
       → length (x .tree) ≡ length (v .tree) → length (x .dropped) ≡ length (v .dropped) → Turn t rule rest (gain + more) lift scope s m r x
-  calls w k tree notes = record { refused = stops w k; went = passes w k; tree-long = tree ∙ w .passed .tree-long; notes-long = notes ∙ w .passed .notes-long }
+  calls w k tree notes = record {
+    refused = stops w k;
+    went = passes w k;
+    tree-long = tree ∙ w .passed .tree-long;
+    notes-long = notes ∙ w .passed .notes-long;
+  }
 
   -- a callee that opens a node
   pub opening : {lift : ℕ} (w : Walk t rule (f ∷ rest) gain lift scope s m u v) → Call t f lift (λ q. Begun t u v q x) u v r x
       → length (x .tree) ≡ length (v .tree) → length (x .dropped) ≡ length (v .dropped) → Turn t rule rest gain (suc lift) scope s m r x
-  opening w k tree notes = record { refused = stops w k; went = enters w k; tree-long = tree ∙ w .passed .tree-long; notes-long = notes ∙ w .passed .notes-long }
+  opening w k tree notes = record {
+    refused = stops w k;
+    went = enters w k;
+    tree-long = tree ∙ w .passed .tree-long;
+    notes-long = notes ∙ w .passed .notes-long;
+  }
 
   -- a callee that ends the node that the routine opened
-  pub closing : Ready t s m → (w : Walk t rule (f ∷ rest) gain 1 scope s m u v) → Call t f 1 (λ q. Ended t (s .builder .first) (s .builder .node) u v q x) u v r x
+  pub closing : Ready t s m → (w : Walk t rule (f ∷ rest) gain 1 scope s m u v)
+      → Call t f 1 (λ q. Ended t (s .builder .first) (s .builder .node) u v q x) u v r x
       → length (x .tree) ≡ length (v .tree) → length (x .dropped) ≡ length (v .dropped) → Turn t rule rest gain 0 scope s m r x
-  closing ready w k tree notes = record { refused = stops w k; went = leaves-node ready w k; tree-long = tree ∙ w .passed .tree-long; notes-long = notes ∙ w .passed .notes-long }
+  closing ready w k tree notes = record {
+    refused = stops w k;
+    went = leaves-node ready w k;
+    tree-long = tree ∙ w .passed .tree-long;
+    notes-long = notes ∙ w .passed .notes-long;
+  }
 
 -- the last call, in the routine's own node: as it ended, so does the routine
-pub done : {t : Tables} {rule : Rule} {gain : ℕ} {s : Parser} {m : Buffers} {r : Step} {x : Buffers} → Turn t rule [] gain 0 (s .list .scope) s m r x → Runs t gain (λ n d. rule n d (posOf s m)) s m r x
+pub done : {t : Tables} {rule : Rule} {gain : ℕ} {s : Parser} {m : Buffers} {r : Step} {x : Buffers} → Turn t rule [] gain 0 (s .list .scope) s m r x
+    → Runs t gain (λ n d. rule n d (posOf s m)) s m r x
 done {t} {rule} {gain} {s} {m} {r} {x} k = either r k
   where
     either : (r : Step) → Turn t rule [] gain 0 (s .list .scope) s m r x → Runs t gain (λ n d. rule n d (posOf s m)) s m r x

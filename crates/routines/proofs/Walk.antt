@@ -72,7 +72,8 @@ drop-more n m x y le e =
     let up : n + (m - n) ≡ m = omega arith in
     rw (← up) (sym (drop-drop (m - n) n x) ∙ ap (λ (l : List ℕ). drop (m - n) l) e ∙ drop-drop (m - n) n y)
 
-pub passed-then : {t : Tables} {g h : ℕ} {p : Parser} {m : Buffers} {q : Parser} {v : Buffers} {z : Parser} {x : Buffers} → Passed t g p m q v → Passed t h q v z x → Passed t (g + h) p m z x
+pub passed-then : {t : Tables} {g h : ℕ} {p : Parser} {m : Buffers} {q : Parser} {v : Buffers} {z : Parser} {x : Buffers} → Passed t g p m q v
+    → Passed t h q v z x → Passed t (g + h) p m z x
 passed-then {m} {q} {v} {z} a b =
     record {
       tree = b .tree ∙ drop-more (q .builder .rows * treeWidth) (z .builder .rows * treeWidth) (v .tree) (m .tree) (omega arith) (a .tree);
@@ -88,7 +89,17 @@ passed-then {m} {q} {v} {z} a b =
 
 -- nothing was done
 pub stays : {t : Tables} {p : Parser} {m : Buffers} → Passed t 0 p m p m
-stays = record { tree = refl; notes = refl; tree-long = refl; notes-long = refl; rows = omega arith; dropped = omega arith; token = omega arith; read = omega arith; light = omega arith }
+stays = record {
+  tree = refl;
+  notes = refl;
+  tree-long = refl;
+  notes-long = refl;
+  rows = omega arith;
+  dropped = omega arith;
+  token = omega arith;
+  read = omega arith;
+  light = omega arith;
+}
 
 -- less is claimed of what was read
 pub weaker : {t : Tables} {g : ℕ} {p : Parser} {m : Buffers} {q : Parser} {v : Buffers} (h : ℕ) → h ≤ g → Passed t g p m q v → Passed t h p m q v
@@ -112,13 +123,15 @@ abbrev pub Home : ℕ → Parser → Parser → Type 0
 Home zero s u = (u .builder .first ≡ s .builder .first) × (u .builder .node ≡ s .builder .node)
 Home (suc lift) s u = Unit {0}
 
-pub stays-home : (lift : ℕ) (s u z : Parser) → z .builder .first ≡ u .builder .first → z .builder .node ≡ u .builder .node → Home lift s u → Home lift s z
+pub stays-home : (lift : ℕ) (s u z : Parser) → z .builder .first ≡ u .builder .first → z .builder .node ≡ u .builder .node → Home lift s u
+    → Home lift s z
 stays-home zero s u z a b h = (a ∙ h .0, b ∙ h .1)
 stays-home (suc lift) s u z a b h = tt
 
 -- from s and m the code came to u and v: `rest` is left of the rule, at least `gain` was read, `lift` nodes are open that were not,
 -- and the list's scope is `scope`
-pub record Walk (t : Tables) (rule : Rule) (rest : List Rule) (gain lift : ℕ) (scope : ℕ) (s : Parser) (m : Buffers) (u : Parser) (v : Buffers) : Type 0 where
+pub record Walk (t : Tables) (rule : Rule) (rest : List Rule) (gain lift scope : ℕ) (s : Parser) (m : Buffers) (u : Parser)
+    (v : Buffers) : Type 0 where
   pub is : (d : ℕ) → nodes ≤ s .builder .depth + d → rule (length (m .tree)) d (posOf s m) ≡ line rest (length (m .tree)) d (posOf u v)
   pub passed : Passed t gain s m u v
   pub ready : Ready t u v
@@ -147,17 +160,28 @@ closes {t} k = record { is = λ ready d h. k .told t ready .is; gone = λ ready.
 
 -- ---- a walk begins
 
-pub begins : {t : Tables} {rule : Rule} {rest : List Rule} {s : Parser} {m : Buffers} → Ready t s m → ((n d : ℕ) → rule n d (posOf s m) ≡ line rest n d (posOf s m))
+pub begins : {t : Tables} {rule : Rule} {rest : List Rule} {s : Parser} {m : Buffers} → Ready t s m
+    → ((n d : ℕ) → rule n d (posOf s m) ≡ line rest n d (posOf s m))
     → Walk t rule rest 0 0 (s .list .scope) s m s m
 begins {m} ready e =
-    record { is = λ d h. e (length (m .tree)) d; passed = stays; ready = ready; depth = omega arith; few = omega arith; home = (refl, refl); scope-is = refl }
+    record {
+      is = λ d h. e (length (m .tree)) d;
+      passed = stays;
+      ready = ready;
+      depth = omega arith;
+      few = omega arith;
+      home = (refl, refl);
+      scope-is = refl;
+    }
 
 -- ---- a walk and the next step, f
 
-module _ {t : Tables} {rule f : Rule} {rest : List Rule} {gain lift : ℕ} {scope : ℕ} {s : Parser} {m : Buffers} {u : Parser} {v : Buffers} {r : Step} {x : Buffers}
+module _ {t : Tables} {rule f : Rule} {rest : List Rule} {gain lift : ℕ} {scope : ℕ} {s : Parser} {m : Buffers} {u : Parser} {v : Buffers} {r : Step}
+    {x : Buffers}
     (w : Walk t rule (f ∷ rest) gain lift scope s m u v) where
   -- what f comes to, at the caller's room and level
-  pub call-is : {Q : Parser → Type 0} → Call t f lift Q u v r x → (d : ℕ) → nodes ≤ s .builder .depth + d → f (length (m .tree)) d (posOf u v) ≡ outOf r x
+  pub call-is : {Q : Parser → Type 0} → Call t f lift Q u v r x → (d : ℕ) → nodes ≤ s .builder .depth + d
+      → f (length (m .tree)) d (posOf u v) ≡ outOf r x
   call-is k d h =
       let depth = w .depth in
       rw (w .passed .tree-long) at (k .is (w .ready) d (omega arith))
@@ -175,7 +199,8 @@ module _ {t : Tables} {rule f : Rule} {rest : List Rule} {gain lift : ℕ} {scop
       w .is d h ∙ then-went _ _ _ _ (call-is k d h ∙ went-is) refl
 
   -- the callee went, and left the node as it was
-  pub passes : {more : ℕ} {z : Parser} → Call t f lift (λ q. Left t more u v q x) u v r x → r ≡ Went z → Walk t rule rest (gain + more) lift scope s m z x
+  pub passes : {more : ℕ} {z : Parser} → Call t f lift (λ q. Left t more u v q x) u v r x → r ≡ Went z
+      → Walk t rule rest (gain + more) lift scope s m z x
   passes {z} k e =
       let left = leaves k e in
       record {
@@ -206,7 +231,8 @@ module _ {t : Tables} {rule f : Rule} {rest : List Rule} {gain lift : ℕ} {scop
       }
 
   -- the callee was refused: what the rule is
-  pub stops-is : {Q : Parser → Type 0} → Call t f lift Q u v r x → Stopped r → (y : Buffers) (d : ℕ) → nodes ≤ s .builder .depth + d → rule (length (m .tree)) d (posOf s m) ≡ outOf r y
+  pub stops-is : {Q : Parser → Type 0} → Call t f lift Q u v r x → Stopped r → (y : Buffers) (d : ℕ) → nodes ≤ s .builder .depth + d
+      → rule (length (m .tree)) d (posOf s m) ≡ outOf r y
   unfolding line
   stops-is k st y d h = w .is d h ∙ stop _ _ _ _ y (call-is k d h) st
 
@@ -216,14 +242,31 @@ module _ {t : Tables} {rule f : Rule} {rest : List Rule} {gain lift : ℕ} {scop
 
 -- ---- a walk goes on without a call
 
-module _ {t : Tables} {rule : Rule} {rest : List Rule} {gain lift : ℕ} {scope : ℕ} {s : Parser} {m : Buffers} {u : Parser} {v : Buffers} (w : Walk t rule rest gain lift scope s m u v) where
+module _ {t : Tables} {rule : Rule} {rest : List Rule} {gain lift : ℕ} {scope : ℕ} {s : Parser} {m : Buffers} {u : Parser} {v : Buffers}
+    (w : Walk t rule rest gain lift scope s m u v) where
   -- a test was met, or a name has its value here: what is left is `next`
   pub turns : {next : List Rule} → ((n d : ℕ) → line rest n d (posOf u v) ≡ line next n d (posOf u v)) → Walk t rule next gain lift scope s m u v
-  turns e = record { is = λ d h. w .is d h ∙ e (length (m .tree)) d; passed = w .passed; ready = w .ready; depth = w .depth; few = w .few; home = w .home; scope-is = w .scope-is }
+  turns e = record {
+    is = λ d h. w .is d h ∙ e (length (m .tree)) d;
+    passed = w .passed;
+    ready = w .ready;
+    depth = w .depth;
+    few = w .few;
+    home = w .home;
+    scope-is = w .scope-is;
+  }
 
   -- less is claimed of what was read, as a loop's invariant wants it
   pub forgets : Walk t rule rest 0 lift scope s m u v
-  forgets = record { is = w .is; passed = weaker 0 (omega arith) (w .passed); ready = w .ready; depth = w .depth; few = w .few; home = w .home; scope-is = w .scope-is }
+  forgets = record {
+    is = w .is;
+    passed = weaker 0 (omega arith) (w .passed);
+    ready = w .ready;
+    depth = w .depth;
+    few = w .few;
+    home = w .home;
+    scope-is = w .scope-is;
+  }
 
 -- ---- a walk ends
 
@@ -240,7 +283,8 @@ arrives w =
 
 -- the last step is another routine in the same node
 pub hands-on : {t : Tables} {rule f : Rule} {gain more : ℕ} {s : Parser} {m : Buffers} {u : Parser} {v : Buffers} {r : Step} {x : Buffers}
-    → Walk t rule (f ∷ []) gain 0 (s .list .scope) s m u v → Call t f 0 (λ q. Left t more u v q x) u v r x → Runs t (gain + more) (λ n d. rule n d (posOf s m)) s m r x
+    → Walk t rule (f ∷ []) gain 0 (s .list .scope) s m u v → Call t f 0 (λ q. Left t more u v q x) u v r x
+    → Runs t (gain + more) (λ n d. rule n d (posOf s m)) s m r x
 hands-on {t} {f = f} {gain} {more} {s} {m} {u} {v} {r} {x} w k =
     let depth = w .depth in
     record {
@@ -257,7 +301,8 @@ hands-on {t} {f = f} {gain} {more} {s} {m} {u} {v} {r} {x} w k =
 
 -- the last step ends the node that the routine opened
 pub ends : {t : Tables} {rule f : Rule} {gain : ℕ} {s : Parser} {m : Buffers} {u : Parser} {v : Buffers} {r : Step} {x : Buffers}
-    → Ready t s m → Walk t rule (f ∷ []) gain 1 (s .list .scope) s m u v → Call t f 1 (λ q. Ended t (s .builder .first) (s .builder .node) u v q x) u v r x
+    → Ready t s m → Walk t rule (f ∷ []) gain 1 (s .list .scope) s m u v
+    → Call t f 1 (λ q. Ended t (s .builder .first) (s .builder .node) u v q x) u v r x
     → Runs t gain (λ n d. rule n d (posOf s m)) s m r x
 ends {t} {f = f} {gain} {s} {m} {u} {v} {r} {x} ready w k =
     let depth = w .depth in
@@ -287,18 +332,25 @@ levelless k = record { is = k .is nodes (omega arith); gone = k .gone }
 
 -- the same routine by another rule that comes to the same
 pub ran-as : {sees : Tables → Type 0} {gain : ℕ} {rule other : RuleOf} {p : Parser} {m : Buffers} {r : Step} {v : Buffers}
-    → Ran sees gain rule p m r v → ((t : Tables) → sees t → (n : ℕ) → other (sourceOf t) n (posOf p m) ≡ rule (sourceOf t) n (posOf p m)) → Ran sees gain other p m r v
-ran-as {m = m} k same = record { told = λ t seen ready. record { is = same t seen (length (m .tree)) ∙ k .told t seen ready .is; gone = k .told t seen ready .gone } }
+    → Ran sees gain rule p m r v → ((t : Tables) → sees t → (n : ℕ) → other (sourceOf t) n (posOf p m) ≡ rule (sourceOf t) n (posOf p m))
+    → Ran sees gain other p m r v
+ran-as {m = m} k same = record {
+  told = λ t seen ready. record { is = same t seen (length (m .tree)) ∙ k .told t seen ready .is; gone = k .told t seen ready .gone };
+}
 
 -- a routine that did nothing
 pub nothing-done : {sees : Tables → Type 0} {rule : RuleOf} {p : Parser} {m : Buffers}
     → ((t : Tables) → sees t → (n : ℕ) → rule (sourceOf t) n (posOf p m) ≡ went (posOf p m)) → Ran sees 0 rule p m (Went p) m
 nothing-done {m = m} same = record {
-  told = λ t seen ready. record { is = same t seen (length (m .tree)); gone = record { passed = stays; ready = ready; depth = refl; first = refl; node = refl; scope = refl } };
+  told = λ t seen ready. record {
+    is = same t seen (length (m .tree));
+    gone = record { passed = stays; ready = ready; depth = refl; first = refl; node = refl; scope = refl };
+  };
 }
 
 -- less is claimed of what was read
-pub ran-less : {sees : Tables → Type 0} {gain : ℕ} {rule : RuleOf} {p : Parser} {m : Buffers} {r : Step} {v : Buffers} → Ran sees gain rule p m r v → Ran sees 0 rule p m r v
+pub ran-less : {sees : Tables → Type 0} {gain : ℕ} {rule : RuleOf} {p : Parser} {m : Buffers} {r : Step} {v : Buffers} → Ran sees gain rule p m r v
+    → Ran sees 0 rule p m r v
 ran-less {p = p} {m} {r} {v} k = record {
   told = λ t seen ready. record {
     is = k .told t seen ready .is;

@@ -125,6 +125,7 @@ pub record Ended (t : Tables) (first node : ℕ) (p : Parser) (m : Buffers) (q :
   pub list : q .list ≡ p .list
   pub lexer : q .lexer ≡ p .lexer
 
+-- Q of the state, where an answer has one; a refusal has none
 abbrev pub Gone : (Parser → Type 0) → Step → Type 0
 Gone Q (Went q) = Q q
 Gone Q (Refused number place) = Unit {0}
@@ -176,13 +177,15 @@ pub record Somehow (sees : Tables → Type 0) (p : Parser) (tree : List ℕ) : T
 
 -- ---- the same over the parameters themselves
 
--- a parameter as a `requires` has it, and as an `ensures` has it
+-- a parameter as a `requires` has it
 abbrev pub Slice : Type 0
 Slice = RefT (List ℕ)
 
+-- and as an `ensures` has it: at the entry and at the exit
 abbrev pub Moments : Type 0
 Moments = Both Slice Slice
 
+-- both buffers, of the numbers that they hold
 abbrev pub buffers : List ℕ → List ℕ → Buffers
 buffers tree dropped = record { tree = tree; dropped = dropped }
 
@@ -190,10 +193,11 @@ buffers tree dropped = record { tree = tree; dropped = dropped }
 abbrev pub lent : Slice → Slice → Buffers
 lent tree dropped = buffers (tree .now) (dropped .now)
 
--- the tables that a routine knows: those with these token rows, and with this text too
+-- the tables that a routine knows: those with these token rows
 abbrev pub Tokens : Slice → Tables → Type 0
 Tokens tokens t = t .tokens ≡ tokens .now
 
+-- and with this text too
 abbrev pub Texts : Slice → Slice → Tables → Type 0
 Texts text tokens t = (t .text ≡ text .now) × (t .tokens ≡ tokens .now)
 
@@ -230,10 +234,11 @@ Leafs tree p r leaf =
     → Told (λ n. position.leaf (flat n) (leaf token)) (λ q. Leafed p (tree .entry .now) q (tree .exit .now))
     p (buffers (tree .entry .now) notes) r (buffers (tree .exit .now) notes)
 
--- a node's start, and its end
+-- a node's start
 abbrev pub Starts : Moments → Parser → Step → (ℕ → Here → Out Here) → Type 0
 Starts tree p r rule = (notes : List ℕ) → Opens rule p (buffers (tree .entry .now) notes) r (buffers (tree .exit .now) notes)
 
+-- a node's end, at its parent's frame
 abbrev pub Finishes : Moments → Parser → Frame → Step → (ℕ → Here → Out Here) → Type 0
 Finishes tree p parent r rule =
     (notes : List ℕ) → Closes rule (parent .first) (parent .node) p (buffers (tree .entry .now) notes) r (buffers (tree .exit .now) notes)
@@ -270,12 +275,21 @@ pub record RowFree (p : Parser) (notes : List ℕ) : Type 0 where
 
 -- the next token is passed, and one row more is counted
 abbrev pub dropping : Parser → Parser
-dropping p = record { lexer = record { token = p .lexer .token + 1; taken = 0 }; held = p .held; list = p .list; builder = p .builder; dropped = p .dropped + 1 }
+dropping p =
+    record {
+      lexer = record { token = p .lexer .token + 1; taken = 0 };
+      held = p .held;
+      list = p .list;
+      builder = p .builder;
+      dropped = p .dropped + 1;
+    }
 
 -- its row was written behind the others
 pub record Dropped (reason : ℕ) (p : Parser) (notes : List ℕ) (q : Parser) (after : List ℕ) : Type 0 where
   pub is : q ≡ dropping p
-  pub row : after ≡ take (p .dropped * droppedWidth) notes ++ (droppedRow (p .lexer .token) reason (p .builder .leaves) ++ drop (p .dropped * droppedWidth + droppedWidth) notes)
+  pub row : after
+      ≡ take (p .dropped * droppedWidth) notes
+      ++ (droppedRow (p .lexer .token) reason (p .builder .leaves) ++ drop (p .dropped * droppedWidth + droppedWidth) notes)
 
 -- ---- the body of an \if
 

@@ -38,6 +38,7 @@ abbrev pub optionOf : Mark → Option flat.Mark
 optionOf Nothing = none
 optionOf (At checkpoint) = some (builder.markOf checkpoint)
 
+-- whether there is no mark
 abbrev pub isNothing : Mark → Bool
 isNothing Nothing = true
 isNothing (At checkpoint) = false
@@ -55,16 +56,20 @@ markAt p = At (record { children = p .builder .children; row = p .builder .rows 
 abbrev pub noMark : KeptMark
 noMark = record { children = 0; row = 0 }
 
+-- a mark as the state keeps it
 abbrev pub keptOf : Mark → KeptMark
 keptOf Nothing = noMark
 keptOf (At checkpoint) = record { children = checkpoint .children; row = checkpoint .row }
 
+-- the builder's checkpoint of a kept mark
 abbrev pub checkpointOf : KeptMark → Checkpoint
 checkpointOf m = record { children = m .children; row = m .row }
 
+-- a kept mark as the code hands it on
 abbrev pub markIn : KeptMark → Mark
 markIn m = cond (eqb (m .row) 0) Nothing (At (checkpointOf m))
 
+-- and as the rules have it
 abbrev pub markOf : KeptMark → Option flat.Mark
 markOf m = cond (eqb (m .row) 0) none (some (builder.markOf (checkpointOf m)))
 
@@ -74,10 +79,11 @@ markOf m = cond (eqb (m .row) 0) none (some (builder.markOf (checkpointOf m)))
 abbrev pub listAt : ParseScope → ListState
 listAt scope = record { scope = numberOf scope; start = noMark; last = noMark }
 
+-- a list as the rules have it
 abbrev pub listOf : ListState → rule.ListState flat.Mark
 listOf l = record { scope = scopeAt (l .scope); start = markOf (l .start); last = markOf (l .last) }
 
--- the rows and the dropped rows are the buffers' first numbers
+-- a state as the rules have it: the rows and the dropped rows are the buffers' first numbers
 abbrev pub posOf : Parser → Buffers → Here
 posOf p m =
     record {
@@ -87,6 +93,7 @@ posOf p m =
       built = record { tree = builder.rowsOf (p .builder) (m .tree); dropped = take (p .dropped * droppedWidth) (m .dropped) };
     }
 
+-- an answer as the rules have it
 abbrev pub outOf : Step → Buffers → Out Here
 outOf (Went p) m = went (posOf p m)
 outOf (Refused number place) m = refused number place

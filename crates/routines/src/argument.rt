@@ -42,7 +42,8 @@ pub fn character(
     word: &[u8],
 ) -> Step
     requires { ⌜ AtWord tokens p × Holding p × Known (Left-of tokens word p) p (lent tree dropped) ⌝ }
-    ensures { λ r. ⌜ Goes (Left-of (tokens .entry) (word .entry) p) tree dropped p r 1 (λ s n. spec.argumentNode (flat n) s (spec.singleChar (flat n) s)) ⌝ }
+    ensures { λ r. ⌜ Goes (Left-of (tokens .entry) (word .entry) p) tree dropped p r 1
+        (λ s n. spec.argumentNode (flat n) s (spec.singleChar (flat n) s)) ⌝ }
 {
     let opened = begin_argument(tree, dropped, p);
     let Step::Went(begun) = opened else {

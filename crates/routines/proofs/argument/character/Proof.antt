@@ -43,16 +43,19 @@ Turned b count gain lift r tree dropped =
     → Turn t (λ n d. spec.argumentNode (flat n) (sourceOf t) (spec.singleChar (flat n) (sourceOf t))) (drop count (plan b t)) gain lift
     (b .args .p .list .scope) (b .args .p) (Given b) r (buffers tree dropped)
 
-begun : (c : tie.After-begin-argument) → Turned (begin-argument→entry c) 1 0 1 (c .begin-argument .result) (c .begin-argument .last .0) (c .begin-argument .last .1 .0)
+begun : (c : tie.After-begin-argument)
+    → Turned (begin-argument→entry c) 1 0 1 (c .begin-argument .result) (c .begin-argument .last .0) (c .begin-argument .last .1 .0)
 unfolding spec.argumentNode steps line
-begun c t seen ready = opening (begins ready (λ n d. refl)) (begins-in (c .begin-argument .ensures)) (c .begin-argument .kept .0) (c .begin-argument .kept .1 .0)
+begun c t seen ready =
+    opening (begins ready (λ n d. refl)) (begins-in (c .begin-argument .ensures)) (c .begin-argument .kept .0) (c .begin-argument .kept .1 .0)
 
 -- the Word is still next
 still : (c : tie.After-opened) → c .opened .given .0 .0 .lexer ≡ opened→entry c .args .p .lexer
 still c = begun-there (opened→entry c .pre .2 .ready) (opened→begin-argument c .begin-argument .ensures) (c .opened .given .1)
 
 taken : (c : tie.After-single-char)
-    → Turned (single-char→entry c) 2 1 1 (c .single-char .result) (c .single-char .last .1 .0) (single-char→begin-argument c .begin-argument .last .1 .0)
+    → Turned (single-char→entry c) 2 1 1 (c .single-char .result) (c .single-char .last .1 .0)
+    (single-char→begin-argument c .begin-argument .last .1 .0)
 taken c t seen ready =
     let given = single-char→entry c .args in
     let inside = single-char→opened c .opened .given .0 .0 in
@@ -63,7 +66,8 @@ taken c t seen ready =
     (c .single-char .kept .1 .0) refl
 
 ended : (c : tie.After-end-argument)
-    → Turned (end-argument→entry c) 3 1 0 (c .end-argument .result) (c .end-argument .last .0) (end-argument→begin-argument c .begin-argument .last .1 .0)
+    → Turned (end-argument→entry c) 3 1 0 (c .end-argument .result) (c .end-argument .last .0)
+    (end-argument→begin-argument c .begin-argument .last .1 .0)
 ended c t seen ready =
     closing ready (taken (end-argument→single-char c) t seen ready .went (end-argument→taken c .taken .given .1))
     (closes (framed (sourceOf t) (end-argument→frame c .frame .ensures) (c .end-argument .ensures (sourceOf t)) _)) (c .end-argument .kept .0) refl
