@@ -65,7 +65,8 @@ returns-2 c notes = record {
       let moves = returns-2→consume-utf8-bytes c .consume-utf8-bytes .ensures in
       let same = same-lexer (leaf .ensures [] 0) went in
       let inside = returns-2→written c .written .given .0 .0 .lexer in
-      let to-is = counted t (given .tokens .now) (given .word .now) (given .p .lexer) inside (size .result) same (seen .0) (seen .1) (size .ensures) in
+      let to-is = counted t (given .tokens .now) (given .word .now) (given .p .lexer) inside (size .result) same (seen .0) (seen .1)
+      (size .ensures) in
       leaf-goes-on t (given .p) (given .tree .now) (leaf .last .1 .0) notes ready
       (record { token = given .p .lexer .token; kind = TokenWord; start = start .result; size = size .result })
       (consumed (given .tokens .now) (size .result)) _

@@ -15,7 +15,8 @@ returns c notes =
     record {
       told = λ t ready.
           built-told _ _ _ notes _ _ (c .building .ensures) (built .ensures .is) refl
-          (λ u e. ended _ _ _ notes u _ (built .kept .1 .0) (ready .steady) (finishes (pre .0) e (built .kept .1 .0) _ _ (pre .1) _ (built .ensures)));
+          (λ u e. ended _ _ _ notes u _ (built .kept .1 .0) (ready .steady)
+          (finishes (pre .0) e (built .kept .1 .0) _ _ (pre .1) _ (built .ensures)));
     }
 
 pub finish-node-spec : {M : Type 1} → statement M
