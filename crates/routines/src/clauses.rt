@@ -39,11 +39,11 @@ fn text_components(tokens: &[u32], tree: &mut [u32], p: Parser) -> Step
 {
     let mut now = p;
     while more_text(tokens, now) {
-        let r = eat(tokens, tree, now);
-        let Step::Went(q) = r else {
-            return r;
+        let eaten = eat(tokens, tree, now);
+        let Step::Went(behind) = eaten else {
+            return eaten;
         };
-        now = q;
+        now = behind;
     }
     Step::Went(now)
 }
@@ -52,19 +52,19 @@ pub fn text(tokens: &[u32], tree: &mut [u32], p: Parser) -> Step
     requires { ⌜ There tokens p × Somehow (Tokens tokens) p (now tree) ⌝ }
     ensures { λ r. ⌜ Grows (Tokens (tokens .entry)) tree p r 1 (λ s n. spec.text (flat n) s) ⌝ }
 {
-    let r = p.start_node(tree, SyntaxKind::ITEM_TEXT);
-    let Step::Went(a) = r else {
-        return r;
+    let opened = p.start_node(tree, SyntaxKind::ITEM_TEXT);
+    let Step::Went(begun) = opened else {
+        return opened;
     };
-    let q = eat(tokens, tree, a);
-    let Step::Went(b) = q else {
-        return q;
+    let eaten = eat(tokens, tree, begun);
+    let Step::Went(first) = eaten else {
+        return eaten;
     };
-    let o = text_components(tokens, tree, b);
-    let Step::Went(c) = o else {
-        return o;
+    let taken = text_components(tokens, tree, first);
+    let Step::Went(read) = taken else {
+        return taken;
     };
-    c.finish_node(tree, SyntaxKind::ITEM_TEXT, p.builder.frame())
+    read.finish_node(tree, SyntaxKind::ITEM_TEXT, p.builder.frame())
 }
 
 // What `clause_lr` takes as the delimiter.
@@ -95,23 +95,23 @@ pub fn clause_lr(text: &[u8], tokens: &[u32], tree: &mut [u32], p: Parser) -> St
     requires { ⌜ There tokens p × Somehow (Texts text tokens) p (now tree) ⌝ }
     ensures { λ r. ⌜ Grows (Texts (text .entry) (tokens .entry)) tree p r 1 (λ s n. spec.clauseLr (flat n) s) ⌝ }
 {
-    let r = p.start_node(tree, SyntaxKind::CLAUSE_LR);
-    let Step::Went(a) = r else {
-        return r;
+    let opened = p.start_node(tree, SyntaxKind::CLAUSE_LR);
+    let Step::Went(begun) = opened else {
+        return opened;
     };
-    let q = eat(tokens, tree, a);
-    let Step::Went(b) = q else {
-        return q;
+    let eaten = eat(tokens, tree, begun);
+    let Step::Went(named) = eaten else {
+        return eaten;
     };
-    let o = trivia(tokens, tree, b);
-    let Step::Went(c) = o else {
-        return o;
+    let passed = trivia(tokens, tree, named);
+    let Step::Went(reached) = passed else {
+        return passed;
     };
-    let n = delimiter(text, tokens, tree, c);
-    let Step::Went(d) = n else {
-        return n;
+    let taken = delimiter(text, tokens, tree, reached);
+    let Step::Went(read) = taken else {
+        return taken;
     };
-    d.finish_node(tree, SyntaxKind::CLAUSE_LR, p.builder.frame())
+    read.finish_node(tree, SyntaxKind::CLAUSE_LR, p.builder.frame())
 }
 
 // The end of an environment, where it is next.

@@ -26,17 +26,17 @@ pub fn ignore_holding_trivia(dropped: &mut [u32], p: Parser) -> Parser
     requires { ⌜ Droppable p (now dropped) ⌝ }
     ensures { λ r. ⌜ Ignored p (now (dropped .entry)) r (now (dropped .exit)) ⌝ }
 {
-    let mut i = p.held;
+    let mut token = p.held;
     let mut count = p.dropped;
-    while i < p.lexer.token {
+    while token < p.lexer.token {
         drop_token(
             dropped,
             count,
-            i as u32,
+            token as u32,
             Reason::TRIVIA,
             p.builder.leaves as u32,
         );
-        i = i + 1;
+        token = token + 1;
         count = count + 1;
     }
     let mut next = p.holding_none();
@@ -50,17 +50,17 @@ pub fn extract_holding_trivia(tokens: &[u32], tree: &mut [u32], p: Parser) -> St
     ensures { λ r. ⌜ Grows (Tokens (tokens .entry)) tree p r 0 (λ s n. spec.extractHoldingTrivia (flat n) s) ⌝ }
 {
     let mut now = p;
-    let mut i = now.held;
-    while i < p.lexer.token {
-        let kind = SyntaxKind::from_token(cell(tokens, i, Column::KIND));
-        let start = cell(tokens, i, Column::START);
-        let size = cell(tokens, i, Column::LENGTH);
-        let r = now.leaf(tree, kind, start, size);
-        let Step::Went(q) = r else {
-            return r;
+    let mut token = now.held;
+    while token < p.lexer.token {
+        let kind = SyntaxKind::from_token(cell(tokens, token, Column::KIND));
+        let start = cell(tokens, token, Column::START);
+        let size = cell(tokens, token, Column::LENGTH);
+        let written = now.leaf(tree, kind, start, size);
+        let Step::Went(leafed) = written else {
+            return written;
         };
-        now = q;
-        i = i + 1;
+        now = leafed;
+        token = token + 1;
     }
     Step::Went(now.holding_none())
 }

@@ -70,11 +70,11 @@ fn eat_body_of_ifs(tokens: &[u32], tree: &mut [u32], dropped: &mut [u32], p: Par
     let mut nested: usize = 0;
     while more_body(tokens, now, nested) {
         nested = nested_behind(cell(tokens, now.lexer.token, Column::KIND), nested);
-        let r = eat(tokens, tree, now);
-        let Step::Went(q) = r else {
-            return r;
+        let eaten = eat(tokens, tree, now);
+        let Step::Went(behind) = eaten else {
+            return eaten;
         };
-        now = q;
+        now = behind;
     }
     let peeked = now.lexer.peek(tokens);
     let Peeked::Kind(_) = peeked else {
@@ -94,14 +94,14 @@ pub fn skipped_body(
     requires { ⌜ There tokens p × Known (Tokens tokens) p (lent tree dropped) ⌝ }
     ensures { λ r. ⌜ Goes (Tokens (tokens .entry)) tree dropped p r 1 (λ s n. spec.skippedBody (flat n) s kind) ⌝ }
 {
-    let r = p.start_node(tree, kind);
-    let Step::Went(a) = r else {
-        return r;
+    let opened = p.start_node(tree, kind);
+    let Step::Went(begun) = opened else {
+        return opened;
     };
-    let b = drop_next(dropped, a, Reason::OPENER);
-    let q = eat_body_of_ifs(tokens, tree, dropped, b);
-    let Step::Went(c) = q else {
-        return q;
+    let inside = drop_next(dropped, begun, Reason::OPENER);
+    let skipped = eat_body_of_ifs(tokens, tree, dropped, inside);
+    let Step::Went(read) = skipped else {
+        return skipped;
     };
-    c.finish_node(tree, kind, p.builder.frame())
+    read.finish_node(tree, kind, p.builder.frame())
 }

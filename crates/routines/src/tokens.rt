@@ -23,11 +23,11 @@ pub fn eat_as(tokens: &[u32], tree: &mut [u32], p: Parser, kind: u32) -> Step
 {
     let start = p.lexer.rest_start(tokens);
     let size = p.lexer.rest_length(tokens);
-    let r = p.leaf(tree, kind, start, size);
-    let Step::Went(q) = r else {
-        return r;
+    let written = p.leaf(tree, kind, start, size);
+    let Step::Went(leafed) = written else {
+        return written;
     };
-    Step::Went(q.with_lexer(q.lexer.eat()))
+    Step::Went(leafed.with_lexer(leafed.lexer.eat()))
 }
 
 pub fn eat(tokens: &[u32], tree: &mut [u32], p: Parser) -> Step
@@ -69,11 +69,11 @@ pub fn trivia(tokens: &[u32], tree: &mut [u32], p: Parser) -> Step
 {
     let mut now = p;
     while more_trivia(tokens, now) {
-        let r = eat(tokens, tree, now);
-        let Step::Went(q) = r else {
-            return r;
+        let eaten = eat(tokens, tree, now);
+        let Step::Went(behind) = eaten else {
+            return eaten;
         };
-        now = q;
+        now = behind;
     }
     Step::Went(now)
 }
@@ -85,11 +85,11 @@ pub fn single_char(tokens: &[u32], tree: &mut [u32], p: Parser, word: &[u8]) -> 
 {
     let size = char_len(word);
     let start = p.lexer.rest_start(tokens);
-    let r = p.leaf(tree, SyntaxKind::TOKEN_WORD, start, size as u32);
-    let Step::Went(q) = r else {
-        return r;
+    let written = p.leaf(tree, SyntaxKind::TOKEN_WORD, start, size as u32);
+    let Step::Went(leafed) = written else {
+        return written;
     };
-    Step::Went(q.with_lexer(q.lexer.consume_utf8_bytes(tokens, size)))
+    Step::Went(leafed.with_lexer(leafed.lexer.consume_utf8_bytes(tokens, size)))
 }
 
 // Whether a Word is next.
@@ -116,13 +116,13 @@ pub fn one_in(tokens: &[u32], tree: &mut [u32], p: Parser, kind: u32) -> Step
     requires { ⌜ There tokens p × Somehow (Tokens tokens) p (now tree) ⌝ }
     ensures { λ r. ⌜ Grows (Tokens (tokens .entry)) tree p r 1 (λ s n. spec.oneIn (flat n) s kind) ⌝ }
 {
-    let r = p.start_node(tree, kind);
-    let Step::Went(a) = r else {
-        return r;
+    let opened = p.start_node(tree, kind);
+    let Step::Went(begun) = opened else {
+        return opened;
     };
-    let q = eat(tokens, tree, a);
-    let Step::Went(b) = q else {
-        return q;
+    let eaten = eat(tokens, tree, begun);
+    let Step::Went(read) = eaten else {
+        return eaten;
     };
-    b.finish_node(tree, kind, p.builder.frame())
+    read.finish_node(tree, kind, p.builder.frame())
 }

@@ -50,12 +50,13 @@ started : (c : tie.After-start-around) → Turned (start-around→entry c) 1 0 1
 unfolding spec.left1Command steps line
 started c notes t seen ready =
     let list = start-around→entry c .args .p .list in
-    opening (begins ready (λ n d. rw (left1-is (sourceOf t) n (list .last) (list .start)))) (around ItemCmd (chosen-is (start-around→or c)) (c .start-around .ensures))
-    (c .start-around .kept .0) refl
+    opening (begins ready (λ n d. rw (left1-is (sourceOf t) n (list .last) (list .start))))
+    (around ItemCmd (chosen-is (start-around→or c)) (c .start-around .ensures)) (c .start-around .kept .0) refl
 
 eaten : (c : tie.After-eat) → Turned (eat→entry c) 2 1 1 (c .eat .result) (c .eat .last .1 .0)
 eaten c notes t seen ready =
-    calls (started (eat→start-around c) notes t seen ready .went (eat→opened c .opened .given .1)) (ran seen (c .eat .ensures notes)) (c .eat .kept .1 .0) refl
+    let w = started (eat→start-around c) notes t seen ready .went (eat→opened c .opened .given .1) in
+    calls w (ran seen (c .eat .ensures notes)) (c .eat .kept .1 .0) refl
 
 ended : (c : tie.After-finish-node) → Turned (finish-node→entry c) 3 1 0 (c .finish-node .result) (c .finish-node .last .1 .0)
 ended c notes t seen ready =
@@ -81,7 +82,8 @@ left1-command-spec =
     let ready = start-around-arg→entry c .pre .1 .ready in
     let last = taken-ok (p .list .last) (p .builder) (ready .steady .last) in
     let start = taken-ok (p .list .start) (p .builder) (ready .steady .start) in
-    (ready .steady .fits, ready .within, subst (λ m. MarkOk (keptOf m) (p .builder)) (sym (chosen-is (start-around-arg→or c))) (or-ok (markIn (p .list .last)) (markIn (p .list .start)) (p .builder) last start)))
+    let ok = or-ok (markIn (p .list .last)) (markIn (p .list .start)) (p .builder) last start in
+    (ready .steady .fits, ready .within, subst (λ m. MarkOk (keptOf m) (p .builder)) (sym (chosen-is (start-around-arg→or c))) ok))
     (λ c. search needs)
     (λ c. search needs)
     (λ c. search needs)

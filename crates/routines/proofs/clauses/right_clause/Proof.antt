@@ -10,21 +10,31 @@ use Rattle.routines.proofs.Asked.{asked-kind, asked-end}
 use Rattle.routines.proofs.Walk.{nothing-done, ran-as, ran-less}
 use Rattle.routines.proofs.clauses.right_clause.Statement.{statement}
 use Rattle.routines.proofs.clauses.right_clause.Tie as tie
+mod At
+use At.*
 
 returns : tie.Need-returns
 unfolding rightClause
-returns c = λ notes. nothing-done (λ t seen n. rw (seen .1, asked-end _ _ (c .before .before .peek .ensures) (eqb Right) (c .enum-told .given .1)))
+returns c notes = nothing-done (λ t seen n. rw (seen .1, asked-end _ _ (returns→peek c .peek .ensures) (eqb Right) (c .enum-told .given .1)))
 
 clause-lr-requires : tie.Need-clause-lr-requires
-clause-lr-requires c κs = (peeked _ _ (c .before .before .before .before .before .peek .ensures) (c .before .before .before .peeked .given .1) .there, c .before .before .before .before .before .before .before .before .before .pre)
+clause-lr-requires c κs =
+    let there = peeked _ _ (clause-lr-arg→peek c .peek .ensures) (clause-lr-arg→peeked c .peeked .given .1) .there in
+    (there, clause-lr-arg→entry c .pre)
 
 returns-2 : tie.Need-returns-2
 unfolding rightClause
-returns-2 c = λ notes. ran-less (ran-as (c .before .before .clause-lr .ensures notes) (λ t seen n. rw (seen .1, asked-kind _ _ (c .before .before .before .before .before .before .before .before .peek .ensures) (eqb Right) (c .before .before .before .before .before .before .peeked .given .1), eq-eqb _ _ (sym (c .before .before .before .before .if1 .taken)))))
+returns-2 c notes =
+    let next = asked-kind _ _ (returns-2→peek c .peek .ensures) (eqb Right) (returns-2→peeked c .peeked .given .1) in
+    let is = eq-eqb _ _ (sym (returns-2→then1 c .if1 .taken)) in
+    ran-less (ran-as (returns-2→clause-lr c .clause-lr .ensures notes) (λ t seen n. rw (seen .1, next, is)))
 
 returns-3 : tie.Need-returns-3
 unfolding rightClause
-returns-3 c = λ notes. nothing-done (λ t seen n. rw (seen .1, asked-kind _ _ (c .before .before .before .before .peek .ensures) (eqb Right) (c .before .before .peeked .given .1), ne-eqb _ _ (λ e. c .if1 .left (sym e))))
+returns-3 c notes =
+    let next = asked-kind _ _ (returns-3→peek c .peek .ensures) (eqb Right) (returns-3→peeked c .peeked .given .1) in
+    let is = ne-eqb _ _ (λ e. c .if1 .left (sym e)) in
+    nothing-done (λ t seen n. rw (seen .1, next, is))
 
 pub right-clause-spec : {M : Type 1} → statement M
 right-clause-spec =

@@ -7,6 +7,8 @@ use Rattle.lexer.specs.Reading.{cursorOf}
 use Rattle.routines.proofs.Eating.{Eating, asked-there, eating-begins, eating-ready, eating-long, eating-goes-on, eating-less, eating-stops, eating-ends}
 use Rattle.routines.proofs.clauses.text_components.Statement.{statement}
 use Rattle.routines.proofs.clauses.text_components.Tie as tie
+mod At
+use At.*
 
 abbrev Inv-loop : tie.InvT-loop
 Inv-loop tokens tree₀ now₀ tree now = Eating isTextComponent tokens now₀ tree₀ now tree
@@ -18,25 +20,37 @@ loop-holds : tie.Need-loop-holds Inv-loop μ-loop
 loop-holds c = eating-begins _ _ _ _
 
 eat-requires : tie.Need-eat-requires Inv-loop μ-loop
-eat-requires c κs = (asked-there isTextComponent _ _ (sym (c .before .before .more-text .ensures) ∙ c .before .if1 .taken), eating-ready _ _ _ _ (c .before .before .before .loop .inv) (c .before .before .before .before .before .before .pre))
+eat-requires c κs =
+    let more = sym (eat-arg→more-text c .more-text .ensures) ∙ eat-arg→then1 c .if1 .taken in
+    let eating = eat-arg→loop c .loop .inv in
+    (asked-there isTextComponent _ _ more, eating-ready _ _ _ _ eating (eat-arg→entry c .pre))
 
 returns : tie.Need-returns Inv-loop μ-loop
-returns c = eating-stops _ _ _ _ (c .before .before .before .before .before .before .before .before .loop .inv) (sym (c .before .before .before .before .before .before .before .more-text .ensures) ∙ c .before .before .before .before .before .before .if1 .taken) (c .before .before .before .before .eat .ensures) (c .enum-told .given)
+returns c =
+    let more = sym (returns→more-text c .more-text .ensures) ∙ returns→then1 c .if1 .taken in
+    let eating = returns→loop c .loop .inv in
+    eating-stops _ _ _ _ eating more (returns→eat c .eat .ensures) (c .enum-told .given)
 
 same-length : tie.Need-same-length Inv-loop μ-loop
-same-length c = c .before .before .before .before .eat .kept .1 .0 ∙ eating-long _ _ _ _ (c .before .before .before .before .before .before .before .before .loop .inv) (c .before .before .before .before .before .before .before .before .before .before .before .pre)
+same-length c = told→eat c .eat .kept .1 .0 ∙ eating-long _ _ _ _ (told→loop c .loop .inv) (told→entry c .pre)
 
 same-length-2 : tie.Need-same-length-2 Inv-loop μ-loop
-same-length-2 c = eating-long _ _ _ _ (c .before .before .loop .inv) (c .before .before .before .before .before .pre)
+same-length-2 c = eating-long _ _ _ _ (else1→loop c .loop .inv) (else1→entry c .pre)
 
 loop-less : tie.Need-loop-less Inv-loop μ-loop
-loop-less c = eating-less _ _ _ _ (c .before .before .before .before .before .before .before .before .before .loop .inv) (sym (c .before .before .before .before .before .before .before .before .more-text .ensures) ∙ c .before .before .before .before .before .before .before .if1 .taken) (c .before .before .before .before .before .eat .ensures) (c .before .before .before .before .before .before .before .before .before .before .before .before .pre) (c .before .r .given .1)
+loop-less c =
+    let more = sym (known-told→more-text c .more-text .ensures) ∙ known-told→then1 c .if1 .taken in
+    let eating = known-told→loop c .loop .inv in
+    eating-less _ _ _ _ eating more (known-told→eat c .eat .ensures) (known-told→entry c .pre) (known-told→eaten c .eaten .given .1)
 
 loop-again : tie.Need-loop-again Inv-loop μ-loop
-loop-again c = eating-goes-on _ _ _ _ (c .before .before .before .before .before .before .before .before .before .loop .inv) (sym (c .before .before .before .before .before .before .before .before .more-text .ensures) ∙ c .before .before .before .before .before .before .before .if1 .taken) (c .before .before .before .before .before .eat .ensures) (c .before .r .given .1)
+loop-again c =
+    let more = sym (known-told→more-text c .more-text .ensures) ∙ known-told→then1 c .if1 .taken in
+    let eating = known-told→loop c .loop .inv in
+    eating-goes-on _ _ _ _ eating more (known-told→eat c .eat .ensures) (known-told→eaten c .eaten .given .1)
 
 returns-2 : tie.Need-returns-2 Inv-loop μ-loop
-returns-2 c = eating-ends _ _ _ _ (c .before .before .loop .inv) (sym (c .before .more-text .ensures) ∙ c .if1 .left)
+returns-2 c = eating-ends _ _ _ _ (returns-2→loop c .loop .inv) (sym (returns-2→more-text c .more-text .ensures) ∙ c .if1 .left)
 
 pub text-components-spec : {M : Type 1} → statement M
 text-components-spec =

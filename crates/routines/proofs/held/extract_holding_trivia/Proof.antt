@@ -8,45 +8,58 @@ use Rattle.routines.proofs.Leaves.{small-token}
 use Rattle.routines.proofs.HeldLaws.{Extracting, extracting-begins, passed-there, extracting-goes-on, extracting-stops, extracting-ends}
 use Rattle.routines.proofs.held.extract_holding_trivia.Statement.{statement}
 use Rattle.routines.proofs.held.extract_holding_trivia.Tie as tie
+mod At
+use At.*
 
 abbrev Inv-loop : tie.InvT-loop
-Inv-loop tokens tree₀ p now₀ i₀ tree now i = Extracting tokens p tree₀ tree now i
+Inv-loop tokens tree₀ p now₀ token₀ tree now token = Extracting tokens p tree₀ tree now token
 
 abbrev μ-loop : tie.MeasureT-loop
-μ-loop tokens tree₀ p now₀ i₀ tree now i = p .lexer .token - i
+μ-loop tokens tree₀ p now₀ token₀ tree now token = p .lexer .token - token
 
 loop-holds : tie.Need-loop-holds Inv-loop μ-loop
-loop-holds c = extracting-begins _ _ _ (c .before .before .pre)
+loop-holds c = extracting-begins _ _ _ (slice-known→entry c .pre)
 
 cell-requires : tie.Need-cell-requires Inv-loop μ-loop
-cell-requires c κs = (passed-there _ _ _ (c .before .before .before .before .before .pre) (c .if1 .taken), omega arith)
+cell-requires c κs = (passed-there _ _ _ (then1→entry c .pre) (c .if1 .taken), omega arith)
 
 cell-requires-2 : tie.Need-cell-requires-2 Inv-loop μ-loop
-cell-requires-2 c κs = (passed-there _ _ _ (c .before .before .before .before .before .before .before .pre) (c .before .before .if1 .taken), omega arith)
+cell-requires-2 c κs = (passed-there _ _ _ (from-token→entry c .pre) (from-token→then1 c .if1 .taken), omega arith)
 
 cell-requires-3 : tie.Need-cell-requires-3 Inv-loop μ-loop
-cell-requires-3 c κs = (passed-there _ _ _ (c .before .before .before .before .before .before .before .before .pre) (c .before .before .before .if1 .taken), omega arith)
+cell-requires-3 c κs = (passed-there _ _ _ (cell2→entry c .pre) (cell2→then1 c .if1 .taken), omega arith)
 
 leaf-requires : tie.Need-leaf-requires Inv-loop μ-loop
-leaf-requires c κs = c .before .before .before .before .before .before .before .loop .inv .fits
+leaf-requires c κs = leaf-arg→loop c .loop .inv .fits
 
 same-length : tie.Need-same-length Inv-loop μ-loop
-same-length c = c .before .before .before .before .leaf .kept .1 .0 ∙ c .before .before .before .before .before .before .before .before .before .before .before .before .loop .inv .long
+same-length c = told→leaf c .leaf .kept .1 .0 ∙ told→loop c .loop .inv .long
 
 returns : tie.Need-returns Inv-loop μ-loop
-returns c = extracting-stops _ _ _ (c .before .before .before .before .before .before .before .before .before .before .before .before .loop .inv) (c .before .before .before .before .before .before .before .before .before .before .if1 .taken) (c .before .before .before .before .before .before .before .before .from-token .ensures ∙ ap leafKind (c .before .before .before .before .before .before .before .before .before .cell .ensures)) (c .before .before .before .before .before .before .before .cell2 .ensures) (c .before .before .before .before .before .before .cell3 .ensures) (c .before .before .before .before .leaf .ensures) (c .enum-told .given)
+returns c =
+    let kind = returns→from-token c .from-token .ensures ∙ ap leafKind (returns→cell c .cell .ensures) in
+    let extracting = returns→loop c .loop .inv in
+    let leaf = returns→leaf c .leaf .ensures in
+    extracting-stops _ _ _ extracting (returns→then1 c .if1 .taken)
+    kind (returns→cell2 c .cell2 .ensures) (returns→cell3 c .cell3 .ensures) leaf (c .enum-told .given)
 
-add-i : tie.Need-add-i Inv-loop μ-loop
-add-i c = let small = small-token (c .before .before .before .before .before .before .before .before .before .before .before .before .before .before .before .before .pre) in omega arith
+add-token : tie.Need-add-token Inv-loop μ-loop
+add-token c = let small = small-token (known-told→entry c .pre) in omega arith
 
 loop-again : tie.Need-loop-again Inv-loop μ-loop
-loop-again c = extracting-goes-on _ _ _ (c .before .before .before .before .before .before .before .before .before .before .before .before .before .loop .inv) (c .before .before .before .before .before .before .before .before .before .before .before .if1 .taken) (c .before .before .before .before .before .before .before .before .before .from-token .ensures ∙ ap leafKind (c .before .before .before .before .before .before .before .before .before .before .cell .ensures)) (c .before .before .before .before .before .before .before .before .cell2 .ensures) (c .before .before .before .before .before .before .before .cell3 .ensures) (c .before .before .before .before .before .leaf .ensures) (c .before .before .before .before .before .leaf .kept .1 .0) (c .before .r .given .1)
+loop-again c =
+    let kind = known-told→from-token c .from-token .ensures ∙ ap leafKind (known-told→cell c .cell .ensures) in
+    let extracting = known-told→loop c .loop .inv in
+    let leaf = known-told→leaf c .leaf .ensures in
+    extracting-goes-on _ _ _ extracting (known-told→then1 c .if1 .taken)
+    kind (known-told→cell2 c .cell2 .ensures) (known-told→cell3 c .cell3 .ensures) leaf
+    (known-told→leaf c .leaf .kept .1 .0) (known-told→written c .written .given .1)
 
 same-length-2 : tie.Need-same-length-2 Inv-loop μ-loop
-same-length-2 c = c .before .before .before .loop .inv .long
+same-length-2 c = holding-none→loop c .loop .inv .long
 
 returns-2 : tie.Need-returns-2 Inv-loop μ-loop
-returns-2 c = extracting-ends _ _ _ (c .before .before .before .loop .inv) (c .before .if1 .left) (c .holding-none .ensures)
+returns-2 c = extracting-ends _ _ _ (returns-2→loop c .loop .inv) (returns-2→else1 c .if1 .left) (c .holding-none .ensures)
 
 pub extract-holding-trivia-spec : {M : Type 1} → statement M
 extract-holding-trivia-spec =
@@ -64,7 +77,7 @@ extract-holding-trivia-spec =
     (λ c. search needs)
     same-length
     returns
-    add-i
+    add-token
     (λ c. search needs)
     loop-again
     (λ c κs. search needs)

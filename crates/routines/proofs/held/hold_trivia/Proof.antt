@@ -5,9 +5,13 @@ use Rattle.rules.specs.Cursor.{Cursor}
 use Rattle.routines.specs.Change.{relexed}
 use Rattle.routines.proofs.held.hold_trivia.Statement.{statement}
 use Rattle.routines.proofs.held.hold_trivia.Tie as tie
+mod At
+use At.*
 
 returns : tie.Need-returns
-returns c = c .with-lexer .ensures ∙ ap (λ (to : Cursor). relexed (c .before .before .args .p) (record { token = to .token; taken = to .taken })) (c .before .eat .ensures)
+returns c =
+    c .with-lexer .ensures
+    ∙ ap (λ (to : Cursor). relexed (returns→entry c .args .p) (record { token = to .token; taken = to .taken })) (returns→eat c .eat .ensures)
 
 pub hold-trivia-spec : {M : Type 1} → statement M
 hold-trivia-spec = tie.close (tie.spec (λ c κs. search needs) (λ c κs. search needs) returns)

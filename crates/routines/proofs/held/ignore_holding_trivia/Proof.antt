@@ -4,27 +4,32 @@ use borrow.Author.Needs.{needs}
 use Rattle.routines.proofs.HeldLaws.{Dropping, dropping-begins, dropping-room, dropping-goes-on, dropping-ends}
 use Rattle.routines.proofs.held.ignore_holding_trivia.Statement.{statement}
 use Rattle.routines.proofs.held.ignore_holding_trivia.Tie as tie
+mod At
+use At.*
 
 abbrev Inv-loop : tie.InvT-loop
-Inv-loop dropped₀ p i₀ count₀ dropped i count = Dropping p dropped₀ dropped i count
+Inv-loop dropped₀ p token₀ count₀ dropped token count = Dropping p dropped₀ dropped token count
 
 abbrev μ-loop : tie.MeasureT-loop
-μ-loop dropped₀ p i₀ count₀ dropped i count = p .lexer .token - i
+μ-loop dropped₀ p token₀ count₀ dropped token count = p .lexer .token - token
 
 loop-holds : tie.Need-loop-holds Inv-loop μ-loop
-loop-holds c = dropping-begins _ _ (c .before .pre)
+loop-holds c = dropping-begins _ _ (slice-known→entry c .pre)
 
 drop-token-requires : tie.Need-drop-token-requires Inv-loop μ-loop
-drop-token-requires c κs = dropping-room _ _ (c .before .before .before .before .before .before .pre) (c .before .before .before .before .loop .inv) (c .before .before .if1 .taken)
+drop-token-requires c κs = dropping-room _ _ (struct-known2→entry c .pre) (struct-known2→loop c .loop .inv) (struct-known2→then1 c .if1 .taken)
 
 loop-again : tie.Need-loop-again Inv-loop μ-loop
-loop-again c = dropping-goes-on _ _ (c .before .before .before .before .before .before .before .before .before .pre) (c .before .before .before .before .before .before .before .loop .inv) (c .before .before .before .before .before .if1 .taken) (c .before .before .drop-token .kept .0) (c .before .before .drop-token .ensures)
+loop-again c =
+    let dropping = slice-known2→loop c .loop .inv in
+    dropping-goes-on _ _ (slice-known2→entry c .pre) dropping (slice-known2→then1 c .if1 .taken)
+    (slice-known2→drop-token c .drop-token .kept .0) (slice-known2→drop-token c .drop-token .ensures)
 
 same-length : tie.Need-same-length Inv-loop μ-loop
-same-length c = c .before .before .before .loop .inv .long
+same-length c = holding-none→loop c .loop .inv .long
 
 returns : tie.Need-returns Inv-loop μ-loop
-returns c = dropping-ends _ _ (c .before .before .before .before .before .pre) (c .before .before .before .loop .inv) (c .before .if1 .left) (c .holding-none .ensures)
+returns c = dropping-ends _ _ (returns→entry c .pre) (returns→loop c .loop .inv) (returns→else1 c .if1 .left) (c .holding-none .ensures)
 
 pub ignore-holding-trivia-spec : {M : Type 1} → statement M
 ignore-holding-trivia-spec =

@@ -1,90 +1,107 @@
--- `skipped::skipped_body` meets its contract: by the walk, in which the opener's row is written into the other buffer. Assumes nothing.
-use mathlib.Core.Path.{_≡_, refl, _∙_}
+-- `skipped::skipped_body` meets its contract: the walk beside its rule, in which the opener's row is written into the other buffer. Assumes nothing.
+use mathlib.Core.Path.{_≡_, refl}
 use mathlib.Core.List.{List, [], _∷_}
-use Prim.Native.Nat.{ℕ}
+use Prim.Native.Nat.{ℕ, _<_}
 use lib.ListN.{drop}
 use borrow.Author.Needs.{needs}
 use Rattle.rules.specs.Checks.{Tables, sourceOf}
 use Rattle.rules.specs.Flat.{flat, reasonOpener}
 use Rattle.rules.specs.Position.{steps}
 use Rattle.rules.specs.Routines as spec
+use Rattle.rules.specs.Tables.{tokenCount}
+use Rattle.routines.specs.Contract.{Ready, Tokens, buffers}
 use Rattle.routines.specs.Stands.{Buffers}
 use Rattle.routines.specs.declared.state.Parser.{Parser}
+use Rattle.routines.specs.declared.state.Step.{Step}
 use Rattle.routines.proofs.Dropping.{row-free, drops}
-use Rattle.routines.proofs.Outside.{Came, beside, node-around, begins-there}
+use Rattle.routines.proofs.Outside.{Came, node-around, begins-there}
 use Rattle.routines.proofs.Skipping.{skipping}
-use Rattle.routines.proofs.Walk.{Rule, line, begins, enters, passes, stops, ends, ran, opens, closes, ran-by}
+use Rattle.routines.proofs.Turn.{Turn, calls, opening, closing, done, starts, finishes}
+use Rattle.routines.proofs.Walk.{Rule, line, begins, passes, ran, ran-by}
 use Rattle.routines.proofs.skipped.skipped_body.Statement.{statement}
 use Rattle.routines.proofs.skipped.skipped_body.Tie as tie
+mod At
+use At.*
+
+abbrev Given : tie.Start → Buffers
+Given b = buffers (b .args .tree .now) (b .args .dropped .now)
 
 -- the rule, as the steps that are left of it
 abbrev plan : tie.Start → Tables → List Rule
-plan b t = node-around (b .args .kind) (b .args .p) ((λ n d. spec.dropNext (flat n) (sourceOf t) reasonOpener) ∷ (λ n d. skipping (sourceOf t) n) ∷ [])
+plan b t =
+    node-around (b .args .kind) (b .args .p)
+    ((λ n d. spec.dropNext (flat n) (sourceOf t) reasonOpener) ∷ (λ n d. skipping (sourceOf t) n) ∷ [])
 
--- where the code stands after so many of them
-abbrev Stands : tie.Start → ℕ → ℕ → ℕ → Parser → Buffers → Type 0
-Stands b done gain lift u v =
-    Came (λ t. t .tokens ≡ b .args .tokens .now) (λ s n. spec.skippedBody (flat n) s (b .args .kind)) (λ t. drop done (plan b t)) gain lift (b .args .p) (beside (b .args .dropped .now) (b .args .tree .now)) u v
+-- how a call ended, whatever the tables are: so many steps are done if it went
+abbrev Turned : tie.Start → ℕ → ℕ → ℕ → Step → List ℕ → List ℕ → Type 0
+Turned b count gain lift r tree dropped =
+    (t : Tables) → Tokens (b .args .tokens) t → Ready t (b .args .p) (Given b)
+    → Turn t (λ n d. spec.skippedBody (flat n) (sourceOf t) (b .args .kind)) (drop count (plan b t)) gain lift (b .args .p .list .scope)
+    (b .args .p) (Given b) r (buffers tree dropped)
 
-entry : (c : tie.Start) → Stands c 0 0 0 (c .args .p) (beside (c .args .dropped .now) (c .args .tree .now))
+started : (c : tie.After-start-node)
+    → Turned (start-node→entry c) 1 0 1 (c .start-node .result) (c .start-node .last .1 .0) (start-node→entry c .args .dropped .now)
 unfolding spec.skippedBody steps line
-entry c t seen ready = begins ready (λ n d. refl)
+started c t seen ready = opening (begins ready (λ n d. refl)) (starts refl (c .start-node .ensures)) (c .start-node .kept .1 .0) refl
 
-after-r : (c : tie.After-r) → Stands (c .before .before .before .before .before .before .before .before .before) 1 0 1 (c .r .given .0 .0) (beside (c .before .before .before .before .before .before .before .before .before .args .dropped .now) (c .before .before .before .before .start-node .last .1 .0))
-after-r c t seen ready = enters (entry (c .before .before .before .before .before .before .before .before .before) t seen ready) (opens (c .before .before .before .before .start-node .ensures (c .before .before .before .before .before .before .before .before .before .args .dropped .now))) (c .r .given .1)
+-- the node's start reads nothing: the opener is still next
+still : (c : tie.After-opened) (t : Tables) → Tokens (opened→entry c .args .tokens) t → c .opened .given .0 .0 .lexer .token < tokenCount (t .tokens)
+still c t seen =
+    let same = begins-there (opened→entry c .pre .1 .ready) (opened→start-node c .start-node .ensures _) (c .opened .given .1) in
+    rw (same, seen) (opened→entry c .pre .0)
 
-after-drop-next : (c : tie.After-drop-next) → Stands (c .before .before .before .before .before .before .before .before .before .before .before .before) 2 1 1 (c .drop-next .result) (beside (c .drop-next .last .0) (c .before .before .before .before .before .before .before .start-node .last .1 .0))
-after-drop-next c t seen ready =
-    passes (after-r (c .before .before .before) t seen ready) (drops (c .drop-next .ensures) (rw (begins-there ready (c .before .before .before .before .before .before .before .start-node .ensures (c .before .before .before .before .before .before .before .before .before .before .before .before .args .dropped .now)) (c .before .before .before .r .given .1), seen) (c .before .before .before .before .before .before .before .before .before .before .before .before .pre .0))) refl
+-- behind the opener
+inside : (c : tie.After-drop-next)
+    → Came (Tokens (drop-next→entry c .args .tokens)) (λ s n. spec.skippedBody (flat n) s (drop-next→entry c .args .kind))
+    (λ t. drop 2 (plan (drop-next→entry c) t)) 1 1 (drop-next→entry c .args .p) (Given (drop-next→entry c)) (c .drop-next .result)
+    (buffers (drop-next→start-node c .start-node .last .1 .0) (c .drop-next .last .0))
+inside c t seen ready =
+    let w = started (drop-next→start-node c) t seen ready .went (drop-next→opened c .opened .given .1) in
+    passes w (drops (c .drop-next .ensures) (still (drop-next→opened c) t seen)) refl
 
-after-q : (c : tie.After-q) → Stands (c .before .before .before .before .before .before .before .before .before .before .before .before .before .before .before .before .before .before .before .before .before .before .before) 3 1 1 (c .q .given .0 .0) (beside (c .before .before .before .before .before .before .eat-body-of-ifs .last .1 .1 .0) (c .before .before .before .before .before .before .eat-body-of-ifs .last .1 .0))
-after-q c t seen ready = passes (after-drop-next (c .before .before .before .before .before .before .before .before .before .before .before) t seen ready) (ran seen (c .before .before .before .before .before .before .eat-body-of-ifs .ensures)) (c .q .given .1)
+skipped : (c : tie.After-eat-body-of-ifs)
+    → Turned (eat-body-of-ifs→entry c) 3 1 1 (c .eat-body-of-ifs .result) (c .eat-body-of-ifs .last .1 .0) (c .eat-body-of-ifs .last .1 .1 .0)
+skipped c t seen ready =
+    calls (inside (eat-body-of-ifs→drop-next c) t seen ready) (ran seen (c .eat-body-of-ifs .ensures))
+    (c .eat-body-of-ifs .kept .1 .0) (c .eat-body-of-ifs .kept .1 .1 .0)
 
-returns : tie.Need-returns
-returns c = ran-by (λ t seen ready. stops (entry (c .before .before .before .before .before .before .before .before .before) t seen ready) (opens (c .before .before .before .before .start-node .ensures (c .before .before .before .before .before .before .before .before .before .args .dropped .now))) (c .enum-told .given))
-
-drop-next-requires : tie.Need-drop-next-requires
-drop-next-requires c κs =
-    let k = c .before .before .before .before .before .before .before .before .before .before .before .pre .1 in
-    row-free (after-r (c .before .before) (k .t) (k .seen) (k .ready) .ready) (rw (begins-there (k .ready) (c .before .before .before .before .before .before .start-node .ensures (c .before .before .before .before .before .before .before .before .before .before .before .args .dropped .now)) (c .before .before .r .given .1), k .seen) (c .before .before .before .before .before .before .before .before .before .before .before .pre .0))
-
-eat-body-of-ifs-requires : tie.Need-eat-body-of-ifs-requires
-eat-body-of-ifs-requires c κs = let k = c .before .before .before .before .before .before .before .before .before .before .before .before .before .before .before .before .pre .1 in record { t = k .t; seen = k .seen; ready = after-drop-next (c .before .before .before .before) (k .t) (k .seen) (k .ready) .ready }
-
-returns-2 : tie.Need-returns-2
-returns-2 c = ran-by (λ t seen ready. stops (after-drop-next (c .before .before .before .before .before .before .before .before .before .before .before) t seen ready) (ran seen (c .before .before .before .before .before .before .eat-body-of-ifs .ensures)) (c .enum-told2 .given))
-
-finish-node-requires : tie.Need-finish-node-requires
-finish-node-requires c κs =
-    let k = c .before .before .before .before .before .before .before .before .before .before .before .before .before .before .before .before .before .before .before .before .before .before .before .before .before .before .pre .1 in
-    let w = after-q (c .before .before .before) (k .t) (k .seen) (k .ready) in
-    (w .ready .steady .fits, w .ready .within)
-
-same-length-4 : tie.Need-same-length-4
-same-length-4 c = c .before .before .finish-node .kept .1 .0 ∙ c .before .before .before .before .before .before .before .before .before .before .before .before .eat-body-of-ifs .kept .1 .0 ∙ c .before .before .before .before .before .before .before .before .before .before .before .before .before .before .before .before .before .before .before .before .before .before .before .before .start-node .kept .1 .0
-
-returns-3 : tie.Need-returns-3
-returns-3 c =
-    ran-by (λ t seen ready. ends ready (after-q (c .before .before .before .before .before .before) t seen ready) (closes (rw (c .before .before .before .frame .ensures) at (c .before .before .finish-node .ensures (c .before .before .before .before .before .before .before .before .before .before .before .before .eat-body-of-ifs .last .1 .1 .0)))))
+ended : (c : tie.After-finish-node)
+    → Turned (finish-node→entry c) 4 1 0 (c .finish-node .result) (c .finish-node .last .1 .0)
+    (finish-node→eat-body-of-ifs c .eat-body-of-ifs .last .1 .1 .0)
+ended c t seen ready =
+    closing ready (skipped (finish-node→eat-body-of-ifs c) t seen ready .went (finish-node→skipped c .skipped .given .1))
+    (finishes refl (finish-node→frame c .frame .ensures) (c .finish-node .ensures)) (c .finish-node .kept .1 .0) refl
 
 pub skipped-body-spec : {M : Type 1} → statement M
 skipped-body-spec =
     tie.close
     (tie.spec
+    -- start_node
     (λ c κs. search needs)
     (λ c. search needs)
     (λ c. search needs)
     (λ c. search needs)
-    returns
-    drop-next-requires
-    eat-body-of-ifs-requires
+    (λ c. ran-by (λ t seen ready. started (returns→start-node c) t seen ready .refused (c .enum-told .given)))
+    -- drop_next
+    (λ c κs.
+    let k = drop-next-arg→entry c .pre .1 in
+    let w = started (drop-next-arg→start-node c) (k .t) (k .seen) (k .ready) .went (drop-next-arg→opened c .opened .given .1) in
+    row-free (w .ready) (still (drop-next-arg→opened c) (k .t) (k .seen)))
+    -- eat_body_of_ifs
+    (λ c κs.
+    let k = eat-body-of-ifs-arg2→entry c .pre .1 in
+    record { t = k .t; seen = k .seen; ready = inside (eat-body-of-ifs-arg2→drop-next c) (k .t) (k .seen) (k .ready) .ready })
     (λ c. search needs)
     (λ c. search needs)
     (λ c. search needs)
     (λ c. search needs)
-    returns-2
+    (λ c. ran-by (λ t seen ready. skipped (returns-2→eat-body-of-ifs c) t seen ready .refused (c .enum-told2 .given)))
+    -- finish_node
     (λ c κs. search needs)
-    finish-node-requires
-    same-length-4
+    (λ c κs.
+    let k = frame→entry c .pre .1 in
+    let w = skipped (frame→eat-body-of-ifs c) (k .t) (k .seen) (k .ready) .went (frame→skipped c .skipped .given .1) in
+    (w .ready .steady .fits, w .ready .within))
+    (λ c. let k = returns-3→entry c .pre .1 in ended (returns-3→finish-node c) (k .t) (k .seen) (k .ready) .tree-long)
     (λ c. search needs)
-    returns-3)
+    (λ c. ran-by (λ t seen ready. done (ended (returns-3→finish-node c) t seen ready))))

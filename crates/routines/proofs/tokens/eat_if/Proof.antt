@@ -9,21 +9,31 @@ use Rattle.routines.proofs.Asked.{asked-kind, asked-end}
 use Rattle.routines.proofs.Walk.{nothing-done, ran-as, ran-less}
 use Rattle.routines.proofs.tokens.eat_if.Statement.{statement}
 use Rattle.routines.proofs.tokens.eat_if.Tie as tie
+mod At
+use At.*
 
 returns : tie.Need-returns
 unfolding eatIf
-returns c = λ notes. nothing-done (λ t seen n. rw (seen, asked-end _ _ (c .before .before .peek .ensures) (eqb (c .before .before .before .before .before .args .kind)) (c .enum-told .given .1)))
+returns c notes =
+    let next = asked-end _ _ (returns→peek c .peek .ensures) (eqb (returns→entry c .args .kind)) (c .enum-told .given .1) in
+    nothing-done (λ t seen n. rw (seen, next))
 
 eat-requires : tie.Need-eat-requires
-eat-requires c κs = (peeked _ _ (c .before .before .before .before .before .peek .ensures) (c .before .before .before .peeked .given .1) .there, c .before .before .before .before .before .before .before .before .pre)
+eat-requires c κs = (peeked _ _ (eat-arg→peek c .peek .ensures) (eat-arg→peeked c .peeked .given .1) .there, eat-arg→entry c .pre)
 
 returns-2 : tie.Need-returns-2
 unfolding eatIf
-returns-2 c = λ notes. ran-less (ran-as (c .before .before .eat .ensures notes) (λ t seen n. rw (seen, asked-kind _ _ (c .before .before .before .before .before .before .before .before .peek .ensures) (eqb (c .before .before .before .before .before .before .before .before .before .before .before .args .kind)) (c .before .before .before .before .before .before .peeked .given .1), eq-eqb _ _ (sym (c .before .before .before .before .if1 .taken)))))
+returns-2 c notes =
+    let next = asked-kind _ _ (returns-2→peek c .peek .ensures) (eqb (returns-2→entry c .args .kind)) (returns-2→peeked c .peeked .given .1) in
+    let is = eq-eqb _ _ (sym (returns-2→then1 c .if1 .taken)) in
+    ran-less (ran-as (returns-2→eat c .eat .ensures notes) (λ t seen n. rw (seen, next, is)))
 
 returns-3 : tie.Need-returns-3
 unfolding eatIf
-returns-3 c = λ notes. nothing-done (λ t seen n. rw (seen, asked-kind _ _ (c .before .before .before .before .peek .ensures) (eqb (c .before .before .before .before .before .before .before .args .kind)) (c .before .before .peeked .given .1), ne-eqb _ _ (λ e. c .if1 .left (sym e))))
+returns-3 c notes =
+    let next = asked-kind _ _ (returns-3→peek c .peek .ensures) (eqb (returns-3→entry c .args .kind)) (returns-3→peeked c .peeked .given .1) in
+    let is = ne-eqb _ _ (λ e. c .if1 .left (sym e)) in
+    nothing-done (λ t seen n. rw (seen, next, is))
 
 pub eat-if-spec : {M : Type 1} → statement M
 eat-if-spec =

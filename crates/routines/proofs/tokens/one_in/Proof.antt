@@ -1,4 +1,4 @@
--- `tokens::one_in` meets its contract: by the walk. Assumes nothing.
+-- `tokens::one_in` meets its contract: the walk beside its rule. Assumes nothing.
 use mathlib.Core.Path.{_≡_, refl}
 use mathlib.Core.List.{List, [], _∷_}
 use Prim.Native.Nat.{ℕ}
@@ -6,80 +6,75 @@ use lib.ListN.{drop}
 use borrow.Author.Needs.{needs}
 use Rattle.rules.specs.Checks.{Tables, sourceOf}
 use Rattle.rules.specs.Flat.{flat}
-use Rattle.rules.specs.Position as position
 use Rattle.rules.specs.Position.{steps}
 use Rattle.rules.specs.Routines as spec
-use Rattle.routines.specs.Contract.{Ready}
-use Rattle.routines.specs.Stands.{Buffers}
+use Rattle.routines.specs.Contract.{Ready, Tokens, buffers}
 use Rattle.routines.specs.declared.state.Parser.{Parser}
-use Rattle.routines.proofs.Walk.{Rule, line, Walk, begins, enters, passes, stops, ends, ran, opens, closes, leaves, ran-by, somehow-then}
+use Rattle.routines.specs.declared.state.Step.{Step}
+use Rattle.routines.proofs.Outside.{node-around, begins-there}
+use Rattle.routines.proofs.Turn.{Turn, calls, opening, closing, done, starts, finishes}
+use Rattle.routines.proofs.Walk.{Rule, line, begins, ran, ran-by, somehow-then}
 use Rattle.routines.proofs.tokens.one_in.Statement.{statement}
 use Rattle.routines.proofs.tokens.one_in.Tie as tie
+mod At
+use At.*
 
 -- the rule, as the steps that are left of it
-abbrev plan : Tables → tie.Start → List Rule
-plan t b =
-    (λ n d. position.start (flat n) (b .args .kind))
-    ∷ (λ n d. spec.eat (flat n) (sourceOf t))
-    ∷ (λ n d. position.finish (flat n) (b .args .kind) (record { first = b .args .p .builder .first; node = b .args .p .builder .node }))
-    ∷ []
+abbrev plan : tie.Start → Tables → List Rule
+plan b t = node-around (b .args .kind) (b .args .p) ((λ n d. spec.eat (flat n) (sourceOf t)) ∷ [])
 
-abbrev before : tie.Start → List ℕ → Buffers
-before b notes = record { tree = b .args .tree .now; dropped = notes }
+-- how a call ended, whatever the tables and the dropped buffer are: so many steps are done if it went
+abbrev Turned : tie.Start → ℕ → ℕ → ℕ → Step → List ℕ → Type 0
+Turned b count gain lift r after =
+    (notes : List ℕ) (t : Tables) → Tokens (b .args .tokens) t → Ready t (b .args .p) (buffers (b .args .tree .now) notes)
+    → Turn t (λ n d. spec.oneIn (flat n) (sourceOf t) (b .args .kind)) (drop count (plan b t)) gain lift (b .args .p .list .scope)
+    (b .args .p) (buffers (b .args .tree .now) notes) r (buffers after notes)
 
--- where the code stands after so many steps, for all tables and dropped buffers
-abbrev Came : tie.Start → ℕ → ℕ → ℕ → Parser → List ℕ → Type 0
-Came b done gain lift u after =
-    (t : Tables) (notes : List ℕ) → t .tokens ≡ b .args .tokens .now → Ready t (b .args .p) (before b notes)
-    → Walk t (λ n d. spec.oneIn (flat n) (sourceOf t) (b .args .kind)) (drop done (plan t b)) gain lift (b .args .p .list .scope) (b .args .p) (before b notes) u (record { tree = after; dropped = notes })
-
-entry : (c : tie.Start) → Came c 0 0 0 (c .args .p) (c .args .tree .now)
+started : (c : tie.After-start-node) → Turned (start-node→entry c) 1 0 1 (c .start-node .result) (c .start-node .last .1 .0)
 unfolding spec.oneIn steps line
-entry c t notes seen ready = begins ready (λ n d. refl)
+started c notes t seen ready =
+    opening (begins ready (λ n d. refl)) (starts refl (c .start-node .ensures)) (c .start-node .kept .1 .0) refl
 
-after-r : (c : tie.After-r) → Came (c .before .before .before .before .before .before .before .before) 1 0 1 (c .r .given .0 .0) (c .before .before .before .before .start-node .last .1 .0)
-after-r c t notes seen ready = enters (entry (c .before .before .before .before .before .before .before .before) t notes seen ready) (opens (c .before .before .before .before .start-node .ensures notes)) (c .r .given .1)
+eaten : (c : tie.After-eat) → Turned (eat→entry c) 2 1 1 (c .eat .result) (c .eat .last .1 .0)
+eaten c notes t seen ready =
+    let w = started (eat→start-node c) notes t seen ready .went (eat→opened c .opened .given .1) in
+    calls w (ran seen (c .eat .ensures notes)) (c .eat .kept .1 .0) refl
 
-after-q : (c : tie.After-q) → Came (c .before .before .before .before .before .before .before .before .before .before .before .before .before .before .before) 2 1 1 (c .q .given .0 .0) (c .before .before .before .before .eat .last .1 .0)
-after-q c t notes seen ready = passes (after-r (c .before .before .before .before .before .before .before) t notes seen ready) (ran seen (c .before .before .before .before .eat .ensures notes)) (c .q .given .1)
+ended : (c : tie.After-finish-node) → Turned (finish-node→entry c) 3 1 0 (c .finish-node .result) (c .finish-node .last .1 .0)
+ended c notes t seen ready =
+    closing ready (eaten (finish-node→eat c) notes t seen ready .went (finish-node→eaten c .eaten .given .1))
+    (finishes refl (finish-node→frame c .frame .ensures) (c .finish-node .ensures)) (c .finish-node .kept .1 .0) refl
 
-returns : tie.Need-returns
-returns c = λ notes. ran-by (λ t seen ready. stops (entry (c .before .before .before .before .before .before .before .before) t notes seen ready) (opens (c .before .before .before .before .start-node .ensures notes)) (c .enum-told .given))
-
-eat-requires : tie.Need-eat-requires
-eat-requires c κs =
-    let s = c .before .before .before .before .before .before .before .before .before .before .pre .1 in
-    let w = after-r (c .before .before) (s .t) (s .notes) (s .seen) (s .ready) in
-    let same = leaves (entry (c .before .before .before .before .before .before .before .before .before .before) (s .t) (s .notes) (s .seen) (s .ready)) (opens (c .before .before .before .before .before .before .start-node .ensures (s .notes))) (c .before .before .r .given .1) .lexer in
-    (rw same (c .before .before .before .before .before .before .before .before .before .before .pre .0), somehow-then s (w .ready))
-
-returns-2 : tie.Need-returns-2
-returns-2 c = λ notes. ran-by (λ t seen ready. stops (after-r (c .before .before .before .before .before .before .before) t notes seen ready) (ran seen (c .before .before .before .before .eat .ensures notes)) (c .enum-told2 .given))
-
-finish-node-requires : tie.Need-finish-node-requires
-finish-node-requires c κs =
-    let s = c .before .before .before .before .before .before .before .before .before .before .before .before .before .before .before .before .before .before .pre .1 in
-    let w = after-q (c .before .before .before) (s .t) (s .notes) (s .seen) (s .ready) in
-    (w .ready .steady .fits, w .ready .within)
-
-returns-3 : tie.Need-returns-3
-returns-3 c = λ notes. ran-by (λ t seen ready. ends ready (after-q (c .before .before .before .before .before .before) t notes seen ready) (closes (rw (c .before .before .before .frame .ensures) at (c .before .before .finish-node .ensures notes))))
+-- the node's start reads nothing
+still : (c : tie.After-opened) → c .opened .given .0 .0 .lexer ≡ opened→entry c .args .p .lexer
+still c =
+    let s = opened→entry c .pre .1 in
+    begins-there (s .ready) (opened→start-node c .start-node .ensures (s .notes)) (c .opened .given .1)
 
 pub one-in-spec : {M : Type 1} → statement M
 one-in-spec =
     tie.close
     (tie.spec
+    -- start_node
     (λ c κs. search needs)
     (λ c. search needs)
     (λ c. search needs)
     (λ c. search needs)
-    returns
-    eat-requires
+    (λ c notes. ran-by (λ t seen ready. started (returns→start-node c) notes t seen ready .refused (c .enum-told .given)))
+    -- eat
+    (λ c κs.
+    let s = eat-arg→entry c .pre .1 in
+    let w = started (eat-arg→start-node c) (s .notes) (s .t) (s .seen) (s .ready) .went (eat-arg→opened c .opened .given .1) in
+    (rw (still (eat-arg→opened c)) (eat-arg→entry c .pre .0), somehow-then s (w .ready)))
     (λ c. search needs)
     (λ c. search needs)
     (λ c. search needs)
-    returns-2
+    (λ c notes. ran-by (λ t seen ready. eaten (returns-2→eat c) notes t seen ready .refused (c .enum-told2 .given)))
+    -- finish_node
     (λ c κs. search needs)
-    finish-node-requires
+    (λ c κs.
+    let s = frame→entry c .pre .1 in
+    let w = eaten (frame→eat c) (s .notes) (s .t) (s .seen) (s .ready) .went (frame→eaten c .eaten .given .1) in
+    (w .ready .steady .fits, w .ready .within))
     (λ c. search needs)
-    returns-3)
+    (λ c notes. ran-by (λ t seen ready. done (ended (returns-3→finish-node c) notes t seen ready))))

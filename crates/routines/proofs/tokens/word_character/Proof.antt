@@ -1,18 +1,34 @@
 -- `tokens::word_character` meets its contract: the routine's promise holds for all tables that agree with more than it sees. Assumes nothing.
+use mathlib.Core.List.{List}
+use mathlib.Core.Path.{_≡_}
+use Prim.Native.Nat.{ℕ}
 use borrow.Author.Needs.{needs}
+use Rattle.lexer.specs.Fine.{Fine}
+use Rattle.lexer.specs.Reading.{cursorOf}
+use Rattle.routines.specs.Contract.{Somehow}
+use Rattle.routines.specs.declared.state.Parser.{Parser}
 use Rattle.routines.proofs.Leaves.{seen-less}
 use Rattle.routines.proofs.Outside.{ran-seeing}
 use Rattle.routines.proofs.tokens.word_character.Statement.{statement}
 use Rattle.routines.proofs.tokens.word_character.Tie as tie
+mod At
+use At.*
+
+-- the cursor is fine in what the code was handed
+fine-of : {text tokens tree : List ℕ} {p : Parser} → Somehow (λ t. (t .text ≡ text) × (t .tokens ≡ tokens)) p tree
+    → Fine text tokens (cursorOf (p .lexer))
+fine-of s = rw (s .seen .0, s .seen .1) at (s .ready .steady .fine)
 
 peek-text-requires : tie.Need-peek-text-requires
-peek-text-requires c κs = let s = c .before .before .before .before .pre .1 in (c .before .before .before .before .pre .0 .0, rw (s .seen .0, s .seen .1) at (s .ready .steady .fine))
+peek-text-requires c κs = let pre = single-char-arg→entry c .pre in (pre .0 .0, fine-of (pre .1))
 
 single-char-requires : tie.Need-single-char-requires
-single-char-requires c κs = (c .before .before .before .before .before .pre .0, seen-less (λ t seen. (seen .1, rw (seen .0) (c .peek-text .ensures))) (c .before .before .before .before .before .pre .1))
+single-char-requires c κs =
+    (peek-text→entry c .pre .0, seen-less (λ t seen. (seen .1, rw (seen .0) (c .peek-text .ensures))) (peek-text→entry c .pre .1))
 
 returns : tie.Need-returns
-returns c = λ notes. ran-seeing (λ t seen. (seen .1, rw (seen .0) (c .before .before .before .peek-text .ensures))) (c .before .before .single-char .ensures notes)
+returns c notes =
+    ran-seeing (λ t seen. (seen .1, rw (seen .0) (returns→peek-text c .peek-text .ensures))) (returns→single-char c .single-char .ensures notes)
 
 pub word-character-spec : {M : Type 1} → statement M
 word-character-spec = tie.close (tie.spec peek-text-requires single-char-requires (λ c. search needs) returns)

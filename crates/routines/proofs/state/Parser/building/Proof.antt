@@ -4,12 +4,14 @@ use borrow.Author.Needs.{needs}
 use Rattle.routines.specs.Change.{buildingOf}
 use Rattle.routines.proofs.state.Parser.building.Statement.{statement}
 use Rattle.routines.proofs.state.Parser.building.Tie as tie
+mod At
+use At.*
 
 returns : tie.Need-returns
-returns c = sym (ap (buildingOf (c .before .before .before .args .self)) (c .before .built .given .1))
+returns c = sym (ap (buildingOf (returns→entry c .args .self)) (returns→built c .built .given .1))
 
 returns-2 : tie.Need-returns-2
-returns-2 c = sym (ap (buildingOf (c .before .before .before .args .self)) (c .before .built2 .given .1))
+returns-2 c = sym (ap (buildingOf (returns-2→entry c .args .self)) (returns-2→built2 c .built2 .given .1))
 
 pub building-spec : {M : Type 1} → statement M
 building-spec = tie.close (tie.spec (λ c. search needs) (λ c. search needs) returns returns-2)

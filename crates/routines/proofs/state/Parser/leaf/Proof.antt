@@ -5,9 +5,14 @@ use Rattle.builder.proofs.Facts.{leafs}
 use Rattle.routines.proofs.Building.{built-told, leafed}
 use Rattle.routines.proofs.state.Parser.leaf.Statement.{statement}
 use Rattle.routines.proofs.state.Parser.leaf.Tie as tie
+mod At
+use At.*
 
 returns : tie.Need-returns
-returns c = λ notes token. built-told _ _ _ notes _ _ (c .building .ensures) (c .before .before .before .token .ensures .is) refl (λ u e. leafed _ _ _ notes u (leafs (c .before .before .before .before .before .before .pre) e (c .before .before .before .token .kept .1 .0) _ _ _ _ (c .before .before .before .token .ensures)))
+returns c notes token =
+    let built = returns→token c .token in
+    built-told _ _ _ notes _ _ (c .building .ensures) (built .ensures .is) refl
+    (λ u e. leafed _ _ _ notes u (leafs (returns→entry c .pre) e (built .kept .1 .0) _ _ _ _ (built .ensures)))
 
 pub leaf-spec : {M : Type 1} → statement M
 leaf-spec = tie.close (tie.spec (λ c κs. search needs) (λ c κs. search needs) (λ c. search needs) returns)

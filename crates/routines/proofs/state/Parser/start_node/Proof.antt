@@ -5,9 +5,17 @@ use Rattle.builder.proofs.Facts.{starts}
 use Rattle.routines.proofs.Building.{built-told, begun}
 use Rattle.routines.proofs.state.Parser.start_node.Statement.{statement}
 use Rattle.routines.proofs.state.Parser.start_node.Tie as tie
+mod At
+use At.*
 
 returns : tie.Need-returns
-returns c = λ notes. record { told = λ t steady. built-told _ _ _ notes _ _ (c .building .ensures) (c .before .before .before .start-node .ensures .is) refl (λ u e. begun _ _ _ notes u (c .before .before .before .start-node .kept .1 .0) steady (starts (c .before .before .before .before .before .before .pre) e (c .before .before .before .start-node .kept .1 .0) _ _ (c .before .before .before .start-node .ensures))) }
+returns c notes =
+    let built = returns→start-node c .start-node in
+    record {
+      told = λ t steady.
+          built-told _ _ _ notes _ _ (c .building .ensures) (built .ensures .is) refl
+          (λ u e. begun _ _ _ notes u (built .kept .1 .0) steady (starts (returns→entry c .pre) e (built .kept .1 .0) _ _ (built .ensures)));
+    }
 
 pub start-node-spec : {M : Type 1} → statement M
 start-node-spec = tie.close (tie.spec (λ c κs. search needs) (λ c κs. search needs) (λ c. search needs) returns)

@@ -5,9 +5,18 @@ use Rattle.builder.proofs.Facts.{wraps}
 use Rattle.routines.proofs.Building.{built-told, begun}
 use Rattle.routines.proofs.state.Parser.wrap.Statement.{statement}
 use Rattle.routines.proofs.state.Parser.wrap.Tie as tie
+mod At
+use At.*
 
 returns : tie.Need-returns
-returns c = λ notes. record { told = λ t steady. built-told _ _ _ notes _ _ (c .building .ensures) (c .before .before .before .wrap .ensures .is) (wrap-rows _ _ _ _) (λ u e. begun _ _ _ notes u (c .before .before .before .wrap .kept .1 .0) steady (wraps (c .before .before .before .before .before .before .pre .0) e (c .before .before .before .wrap .kept .1 .0) _ _ (c .before .before .before .before .before .before .pre .1) _ (c .before .before .before .before .before .before .pre .2) (c .before .before .before .wrap .ensures))) }
+returns c notes =
+    let pre = returns→entry c .pre in
+    let built = returns→wrap c .wrap in
+    record {
+      told = λ t steady.
+          built-told _ _ _ notes _ _ (c .building .ensures) (built .ensures .is) (wrap-rows _ _ _ _)
+          (λ u e. begun _ _ _ notes u (built .kept .1 .0) steady (wraps (pre .0) e (built .kept .1 .0) _ _ (pre .1) _ (pre .2) (built .ensures)));
+    }
 
 pub wrap-spec : {M : Type 1} → statement M
 wrap-spec = tie.close (tie.spec (λ c κs. search needs) (λ c κs. search needs) (λ c. search needs) returns)

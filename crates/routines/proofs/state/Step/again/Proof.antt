@@ -5,4 +5,10 @@ use Rattle.routines.proofs.state.Step.again.Statement.{statement}
 use Rattle.routines.proofs.state.Step.again.Tie as tie
 
 pub again-spec : {M : Type 1} → statement M
-again-spec = tie.close (tie.spec (λ c. search needs) (λ c. search needs) (λ c. sym (c .before .self .given .1)) (λ c. sym (c .before .self2 .given .1)))
+again-spec =
+    tie.close
+    (tie.spec
+    (λ c. search needs)
+    (λ c. search needs)
+    (λ c. sym (c .before .self .given .1))
+    (λ c. sym (c .before .self2 .given .1)))
