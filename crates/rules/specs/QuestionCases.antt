@@ -99,10 +99,12 @@ cases =
 -- what is asked of a row, and what is expected
 abbrev pub asked : Case → Formula × Leaf
 asked c =
-    let range = Questions.leafRange (c .text) (c .tree) (c .row) in (
-      (Questions.isDisplay (c .text) (c .tree) (c .row), Questions.isInline (c .text) (c .tree) (c .row), Questions.isValid (c .text) (c .tree) (c .row)),
-      (Questions.isLeaf (c .text) (c .tree) (c .row), range .start, range .size),
-    )
+    let display = Questions.isDisplay (c .text) (c .tree) (c .row) in
+    let inline = Questions.isInline (c .text) (c .tree) (c .row) in
+    let valid = Questions.isValid (c .text) (c .tree) (c .row) in
+    let inside = Questions.isLeaf (c .text) (c .tree) (c .row) in
+    let range = Questions.leafRange (c .text) (c .tree) (c .row) in
+    ((display, inline, valid), (inside, range .start, range .size))
 
 abbrev pub wanted : Case → Formula × Leaf
 wanted c = (c .formula, c .leaf)
