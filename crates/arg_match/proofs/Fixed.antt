@@ -15,13 +15,13 @@ use Rattle.arg_match.proofs.ArgMatcher.match_as_term.Reads as match-as-
 use Rattle.arg_match.proofs.ArgMatcher.start_match.Reads as start-match
 use Rattle.arg_match.proofs.ArgMatcher.try_match.Reads as try-match
 
-abbrev matcher : rules.Matcher → ArgMatcher
+abbrev pub matcher : rules.Matcher → ArgMatcher
 matcher rules.nothing = None
 matcher (rules.atMost n counter) = AtMostTerm n counter
 matcher rules.greedy = Greedy
 matcher (rules.glob state) = Glob state
 
-from-matcher : (m : ArgMatcher) → matcher (matcherOf m) ≡ m
+pub from-matcher : (m : ArgMatcher) → matcher (matcherOf m) ≡ m
 from-matcher None = refl
 from-matcher (AtMostTerm max counter) = refl
 from-matcher Greedy = refl

@@ -60,7 +60,7 @@ pub equations :
     × Only refusals.Post
 equations = (equal, equal, equal, equal, equal, equal, equal, equal, equal, equal, equal, equal, equal)
 
-abbrev scope : rules.Scope → ParseScope
+abbrev pub scope : rules.Scope → ParseScope
 scope rules.Root = Root
 scope rules.DollarFormula = DollarFormula
 scope rules.CmdFormula = CmdFormula
@@ -70,7 +70,7 @@ scope rules.CurlyItem = CurlyItem
 scope rules.BracketItem = BracketItem
 scope rules.ParenItem = ParenItem
 
-from-scope : (p : ParseScope) → scope (scopeOf p) ≡ p
+pub from-scope : (p : ParseScope) → scope (scopeOf p) ≡ p
 from-scope Root = refl
 from-scope DollarFormula = refl
 from-scope CmdFormula = refl
