@@ -1,4 +1,5 @@
--- The contracts fix the results (crates/syntax/proofs/Only.antt): each equates the result, or what it stands for, with a rule's value. Assumes nothing.
+-- The contracts fix the results (crates/syntax/proofs/Only.antt): each equates the result, or what it stands for, with a rule's value.
+-- Assumes nothing.
 use mathlib.Core.List.{[]}
 use mathlib.Core.Path.{_≡_, refl, sym, ap, ap₂, _∙_}
 use Rattle.rules.specs.Items as rules
