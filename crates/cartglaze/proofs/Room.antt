@@ -18,7 +18,7 @@ use Rattle.rules.specs.Position.{Pos}
 use Rattle.rules.specs.Run.{Ran, accepted, refusedAt, over, afterReading, afterChecks, run}
 use Rattle.rules.specs.Tables.{tokenCount}
 use Rattle.rules.proofs.Checks as checked
-use Rattle.rules.proofs.Handed.{IfWent, goes}
+use Rattle.rules.proofs.Goes.{Goes, goes}
 use Rattle.rules.proofs.HandedRows.{HasRead, rows-read}
 use Rattle.rules.proofs.NothingLost.{sound}
 use Rattle.rules.proofs.Room as rules
@@ -77,7 +77,7 @@ module _ (t : Tables) (tree tree′ dropped dropped′ : List ℕ) where
 
   -- that all is read tells that the rows are as many as are counted
   abbrev Read : Pos Built Mark → Type 0
-  Read p = HasRead (sourceOf t) (p .built) (record { token = tokenCount (t .tokens); taken = 0 })
+  Read p = HasRead (sourceOf t) (record { token = tokenCount (t .tokens); taken = 0 }) (p .built)
 
   -- how many dropped rows there are
   abbrev dropsOf : Pos Built Mark → ℕ
@@ -92,7 +92,7 @@ module _ (t : Tables) (tree tree′ dropped dropped′ : List ℕ) where
       let drops = over-alike (p .built .dropped) dropped dropped′ _ whole in
       (refl, record { tree = rows; dropped = drops })
 
-  read-accepted : {rows drops : ℕ} (o u : Out (Pos Built Mark)) → ((p : Pos Built Mark) → o ≡ went p → u ≡ went p) → IfWent Read o
+  read-accepted : {rows drops : ℕ} (o u : Out (Pos Built Mark)) → ((p : Pos Built Mark) → o ≡ went p → u ≡ went p) → Goes Read o
       → afterReading tree dropped o .answer ≡ accepted rows drops
       → SameAccepted rows drops (afterReading tree dropped o) (afterReading tree′ dropped′ u)
   read-accepted {rows} {drops} (went p) u more (goes read) e =
