@@ -1,8 +1,9 @@
--- The first numbers of a buffer: so many as are asked for, if it has them. Assumes nothing.
-use mathlib.Core.Path.{_≡_, sym}
-use mathlib.Core.List.{List}
-use Prim.Native.Nat.{ℕ, _≤_}
-use lib.ListN.{length, take}
+-- The first numbers of a buffer, so many as are asked for, if it has them; and what counts past its end. Assumes nothing.
+use mathlib.Core.Path.{_≡_, refl, sym, ap}
+use mathlib.Core.List.{List, _∷_}
+use Prim.Native.Nat.{ℕ, zero, suc, _≤_}
+use native.Mathlib.Omega.{arith}
+use lib.ListN.{length, getD, take, replicate, List·getD-eq-default}
 use lib.Seq.{length-take-le}
 use Rattle.io.specs.Counts.{Counts}
 
@@ -11,3 +12,12 @@ front n xs h = sym (length-take-le n xs h)
 
 pub counts : (n : ℕ) (xs : List ℕ) → n ≤ length xs → Counts n xs
 counts n xs h = (h, front n xs h)
+
+pub past-end : (xs : List ℕ) (at : ℕ) → length xs ≤ at → 0 ≡ getD xs at 0
+past-end xs at h = sym (List·getD-eq-default xs 0 h)
+
+-- of a buffer that is one number throughout
+pub take-replicate : (n m value : ℕ) → n ≤ m → take n (replicate m value) ≡ replicate n value
+take-replicate zero m value h = refl
+take-replicate (suc n) zero value h = absurd (omega arith)
+take-replicate (suc n) (suc m) value h = ap (λ (l : List ℕ). value ∷ l) (take-replicate n m value (omega arith))

@@ -2,14 +2,14 @@
 -- dropped rows have the same laws. Assumes nothing.
 use Prim.Native.Nat.{ℕ, zero, suc, _+_, _*_, _-_, _≤_, _<_, min}
 use mathlib.Core.List.{List, [], _∷_, _++_}
-use mathlib.Core.Path.{_≡_, refl, sym, ap, _∙_}
-use native.Mathlib.Nat.{add-zero, zero-add, suc-mul}
+use mathlib.Core.Path.{_≡_, sym, ap, _∙_}
+use native.Mathlib.Nat.{add-zero, suc-mul}
 use native.Mathlib.Numerals.{add-one}
 use native.Mathlib.Omega.{arith}
 use borrow.Author.Tests.{leb-true, leb-false, eq-eqb, ne-eqb}
 use lib.Dec.{leb}
 use lib.ListN.{length, getD, take, drop, length-drop}
-use lib.Seq.{take-all, take-at, take-suc, drop-cons, drop-drop, getD-take, getD-drop, length-sets, sets-eq}
+use lib.Seq.{take-all, take-at, drop-cons, drop-drop, getD-take, getD-drop, length-sets, sets-eq}
 use Rattle.rules.specs.Flat.{tagLeaf}
 use Rattle.rules.specs.Limits
 use Rattle.rules.specs.Tables.{part}
@@ -38,7 +38,8 @@ part-cut text start size end e =
     let cut : length (drop start text) ≤ end - start = omega arith in
     take-all size (drop start text) all ∙ sym (take-all (end - start) (drop start text) cut))
 
-pub part-next : (text : List ℕ) (i end : ℕ) → i < end → end ≤ length text → part text i (end - i) ≡ getD text i 0 ∷ part text (i + 1) (end - (i + 1))
+pub part-next : (text : List ℕ) (i end : ℕ) → i < end → end ≤ length text
+    → part text i (end - i) ≡ getD text i 0 ∷ part text (i + 1) (end - (i + 1))
 part-next text i end h inside =
     let here : i < length text = omega arith in
     rw (one-more end i h, drop-cons text i 0 here, add-one i)
@@ -48,7 +49,8 @@ part-end text i end h = rw (no-more end i h)
 
 -- ---- the texts of tokens from one on
 module _ (text tokens : List ℕ) (count : ℕ) where
-  pub tokens-next : (i : ℕ) → i < count → textsFrom text tokens i (count - i) ≡ tokenText text tokens i ++ textsFrom text tokens (i + 1) (count - (i + 1))
+  pub tokens-next : (i : ℕ) → i < count
+      → textsFrom text tokens i (count - i) ≡ tokenText text tokens i ++ textsFrom text tokens (i + 1) (count - (i + 1))
   tokens-next i h = rw (one-more count i h)
 
   pub tokens-end : (i : ℕ) → count ≤ i → textsFrom text tokens i (count - i) ≡ []
@@ -114,13 +116,9 @@ written {x} {t} {v} {r} k short room =
     let fits : 0 + length x ≤ length t = omega arith in
     rw (k .is, sets-eq x t 0 fits) (take-at x (drop (0 + length x) t) r size)
 
--- ---- bytes that are the same so far, and one more
-pub same-next : (one other : List ℕ) (i : ℕ) → i < length one → i < length other → getD one i 0 ≡ getD other i 0 → take i one ≡ take i other
-    → take (i + 1) one ≡ take (i + 1) other
-same-next one other i h k e before = rw (add-one i, take-suc one i 0 h, take-suc other i 0 k, e, before)
-
 -- two texts that are written whole, and whose bytes are the same
-pub texts-same : {x y t u v w : List ℕ} {r s : ℕ} → Wrote x t 0 v r → Wrote y u 0 w s → r ≡ s → length t < most → length u < most → r ≤ length v → r ≤ length w
+pub texts-same : {x y t u v w : List ℕ} {r s : ℕ} → Wrote x t 0 v r → Wrote y u 0 w s → r ≡ s
+    → length t < most → length u < most → r ≤ length v → r ≤ length w
     → take r v ≡ take r w
     → x ≡ y
 texts-same {w = w} {s = s} one other e short brief room space same =

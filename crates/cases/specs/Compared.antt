@@ -1,14 +1,26 @@
--- How far a comparison goes in a case, so that no place in it passes what a number holds.
-use Prim.Native.Nat.{ℕ, _+_, _^_, _≤_, _<_}
+-- What the answers of the comparisons stand for.
+use Prim.Native.Nat.{ℕ, _*_, _-_}
+use mathlib.Core.List.{List}
+use mathlib.Core.Path.{_≡_}
+use lib.ListN.{length, take, drop, replicate}
+use Rattle.rules.specs.Tables.{part}
+use Rattle.cases.specs.Recorded.{Form, rowsAt, rowsEnd}
 use Rattle.cases.specs.declared.compare.Compared.{Compared}
 use Rattle.cases.specs.declared.compare.Compared.the-variants.{Same, Differs}
 
--- one row: at most seven bytes
-abbrev pub Near : ℕ → Compared → Type 0
-Near at (Same next) = next ≤ at + 7
-Near at Differs = Unit {0}
+-- the same, with the place where the bytes go on, exactly where something holds
+pub record Compares (end : ℕ) (P : Type 0) (r : Compared) : Type 0 where
+  pub same : (next : ℕ) → r ≡ Same next → (next ≡ end) × P
+  pub differs : r ≡ Differs → P → ⊥
 
--- all rows of a table
-abbrev pub Far : ℕ → Compared → Type 0
-Far at (Same next) = next < at + 2 ^ 35
-Far at Differs = Unit {0}
+-- all numbers of a buffer from one on are this one
+abbrev pub AllFrom : List ℕ → ℕ → ℕ → Type 0
+AllFrom buffer from value = drop from buffer ≡ replicate (length buffer - from) value
+
+-- the numbers of one row of a buffer are those that are recorded at a place
+abbrev pub RowIs : Form → List ℕ → ℕ → List ℕ → ℕ → Type 0
+RowIs form case at rows row = part rows (row * form .width) (form .width) ≡ form .row case at
+
+-- and those of its first rows
+abbrev pub RowsAre : Form → List ℕ → ℕ → List ℕ → ℕ → Type 0
+RowsAre form case at rows count = take (count * form .width) rows ≡ rowsAt form case at count

@@ -1,16 +1,15 @@
 // What was dropped of a run, put back among its leaf texts where the dropped list says, beside the token texts joined in order.
 ghost use mathlib.Core.Path.{_≡_};
-ghost use mathlib.Core.Bool.{true};
 ghost use Prim.Native.Nat.{_≤_, _/_};
 ghost use lib.ListN.{length, take};
 ghost use Rattle.rules.specs.Limits.{droppedWidth};
 ghost use Rattle.rules.specs.Questions.{rowCount};
-ghost use Rattle.rules.specs.PutBack.{stored, putBack, treeRows, droppedRows, tokenTexts};
 ghost use Rattle.sheets.specs.Contract.{Wrote};
-use crate::texts::cell;
+ghost use Rattle.cases.specs.Tells.{Tells};
+ghost use Rattle.cases.specs.Back.{counted, backOf, Returned};
 use crate::texts::dropped_after;
 use crate::texts::joined;
-use crate::texts::part;
+use crate::texts::range;
 use syntax::Limits;
 use syntax::Tag;
 
@@ -25,7 +24,9 @@ fn put_back(
     drops: usize,
 ) -> usize
     requires { ⌜ (rows ≤ rowCount (now tree)) × (drops ≤ length (now dropped) / droppedWidth) ⌝ }
-    ensures { λ r. ⌜ Wrote (putBack (stored (now (text .entry)) (now (tokens .entry)) (treeRows rows (now (tree .entry))) (droppedRows drops (now (dropped .entry))))) (now (out .entry)) 0 (now (out .exit)) r ⌝ }
+    ensures { λ r.
+        let run = counted (now (text .entry)) (now (tokens .entry)) (now (tree .entry)) rows (now (dropped .entry)) drops in
+        ⌜ Wrote (backOf run) (now (out .entry)) 0 (now (out .exit)) r ⌝ }
 {
     let mut next = 0;
     let mut leaves: usize = 0;
@@ -35,9 +36,7 @@ fn put_back(
             continue;
         }
         let half = dropped_after(out, next, text, tokens, dropped, drops, leaves);
-        let start = cell(tree, from + 2);
-        let size = cell(tree, from + 3);
-        next = part(out, half, text, start, size);
+        next = range(out, half, text, tree, from + 2);
         leaves = leaves + 1;
     }
     dropped_after(out, next, text, tokens, dropped, drops, leaves)
@@ -46,7 +45,7 @@ fn put_back(
 // Whether so many first bytes are the same.
 fn same(one: &[u8], other: &[u8], size: usize) -> bool
     requires { ⌜ (size ≤ length (now one)) × (size ≤ length (now other)) ⌝ }
-    ensures { λ r. ⌜ (r ≡ true → take size (now (one .entry)) ≡ take size (now (other .entry))) ⌝ }
+    ensures { λ r. ⌜ Tells (take size (now (one .entry)) ≡ take size (now (other .entry))) r ⌝ }
 {
     for i in 0..size {
         if one[i] != other[i] {
@@ -67,7 +66,9 @@ pub fn texts_return(
     back: &mut [u8],
     whole: &mut [u8],
 ) -> bool
-    ensures { λ r. ⌜ (r ≡ true → putBack (stored (now (text .entry)) (now (tokens .entry)) (treeRows rows (now (tree .entry))) (droppedRows drops (now (dropped .entry)))) ≡ tokenTexts (now (text .entry)) (now (tokens .entry))) ⌝ }
+    ensures { λ r.
+        let run = counted (now (text .entry)) (now (tokens .entry)) (now (tree .entry)) rows (now (dropped .entry)) drops in
+        ⌜ Returned run (now (back .entry)) (now (whole .entry)) r (now (back .exit)) (now (whole .exit)) ⌝ }
 {
     if tree.len() / Limits::TREE_WIDTH < rows {
         return false;

@@ -1,6 +1,11 @@
 // Whether what a run gave is what is recorded.
+ghost use mathlib.Core.Path.{_≡_};
 ghost use Prim.Native.Nat.{_+_, _^_, _≤_, _<_};
-ghost use Rattle.cases.specs.Compared.{Near, Far};
+ghost use lib.ListN.{length};
+ghost use Rattle.rules.specs.Tables.{part};
+ghost use Rattle.cases.specs.Tells.{Tells};
+ghost use Rattle.cases.specs.Recorded.{treeForm, droppedForm, formOf, rowsEnd};
+ghost use Rattle.cases.specs.Compared.{Compares, AllFrom, RowIs, RowsAre};
 use crate::bytes::byte;
 use crate::bytes::number;
 use crate::bytes::short;
@@ -8,14 +13,19 @@ use crate::bytes::wide;
 use syntax::Limits;
 use syntax::Tag;
 
-// Where the next recorded row begins, or that this one differs.
+// Tag and kind of a tree row stand in one byte, tag * 64 + kind.
+const KINDS: usize = 64;
+
+// Where the bytes behind what is recorded begin, or that it differs.
 pub enum Compared {
     Same(usize),
     Differs,
 }
 
 // Whether all numbers from one on are the same.
-pub fn all_from(buffer: &[u32], from: usize, value: u32) -> bool {
+pub fn all_from(buffer: &[u32], from: usize, value: u32) -> bool
+    ensures { λ r. ⌜ Tells (AllFrom (now (buffer .entry)) from value) r ⌝ }
+{
     let mut i = from;
     while i < buffer.len() {
         if buffer[i] != value {
@@ -26,83 +36,87 @@ pub fn all_from(buffer: &[u32], from: usize, value: u32) -> bool {
     true
 }
 
-// Tag and kind in one byte; a leaf's start and length in two each.
+// Whether these numbers stand in the buffer from a place on.
+fn stand_at(buffer: &[u32], from: usize, numbers: &[usize]) -> bool
+    requires { ⌜ (from < 2 ^ 40) × (0 < length (now numbers)) × (length (now numbers) < 2 ^ 40) ⌝ }
+    ensures { λ r. ⌜ Tells (part (now (buffer .entry)) from (length (now (numbers .entry))) ≡ now (numbers .entry)) r ⌝ }
+{
+    if buffer.len() < from + numbers.len() {
+        return false;
+    }
+    for i in 0..numbers.len() {
+        if wide(buffer[from + i]) != numbers[i] {
+            return false;
+        }
+    }
+    true
+}
+
+// A row of the tree: tag and kind in one byte; a leaf's start and length in two each.
 fn tree_row(case: &[u8], at: usize, tree: &[u32], row: usize) -> Compared
     requires { ⌜ (at < 2 ^ 38) × (row < 2 ^ 32) ⌝ }
-    ensures { λ r. ⌜ Near at r ⌝ }
+    ensures { λ r. ⌜ Compares (at + treeForm .bytes (now (case .entry)) at) (RowIs treeForm (now (case .entry)) at (now (tree .entry)) row) r ⌝ }
 {
-    let cell = row * Limits::TREE_WIDTH;
-    if tree.len() < cell + Limits::TREE_WIDTH {
-        return Compared::Differs;
-    }
-    let tag = wide(tree[cell]);
-    let kind = wide(tree[cell + 1]);
-    let start = wide(tree[cell + 2]);
-    let size = wide(tree[cell + 3]);
     let mark = byte(case, at);
-    if tag != mark / 64 {
-        return Compared::Differs;
-    }
-    if kind != mark % 64 {
-        return Compared::Differs;
-    }
-    if tag == wide(Tag::LEAF) {
-        if start != short(case, at + 1) {
-            return Compared::Differs;
+    let from = row * Limits::TREE_WIDTH;
+    if mark / KINDS == wide(Tag::LEAF) {
+        let leaf = [
+            mark / KINDS,
+            mark % KINDS,
+            short(case, at + 1),
+            short(case, at + 3),
+        ];
+        if stand_at(tree, from, &leaf) {
+            return Compared::Same(at + 5);
         }
-        if size != short(case, at + 3) {
-            return Compared::Differs;
-        }
-        return Compared::Same(at + 5);
-    }
-    if start + size != 0 {
         return Compared::Differs;
     }
-    Compared::Same(at + 1)
+    let other = [mark / KINDS, mark % KINDS, 0, 0];
+    if stand_at(tree, from, &other) {
+        return Compared::Same(at + 1);
+    }
+    Compared::Differs
 }
 
-// Token in two bytes, reason in one, leaves in four.
+// A dropped row: token in two bytes, reason in one, leaves in four.
 fn dropped_row(case: &[u8], at: usize, dropped: &[u32], row: usize) -> Compared
     requires { ⌜ (at < 2 ^ 38) × (row < 2 ^ 32) ⌝ }
-    ensures { λ r. ⌜ Near at r ⌝ }
+    ensures { λ r. ⌜ Compares (at + 7) (RowIs droppedForm (now (case .entry)) at (now (dropped .entry)) row) r ⌝ }
 {
-    let cell = row * Limits::DROPPED_WIDTH;
-    if dropped.len() < cell + Limits::DROPPED_WIDTH {
-        return Compared::Differs;
+    let recorded = [short(case, at), byte(case, at + 2), number(case, at + 3)];
+    if stand_at(dropped, row * Limits::DROPPED_WIDTH, &recorded) {
+        return Compared::Same(at + 7);
     }
-    if wide(dropped[cell]) != short(case, at) {
-        return Compared::Differs;
-    }
-    if wide(dropped[cell + 1]) != byte(case, at + 2) {
-        return Compared::Differs;
-    }
-    if wide(dropped[cell + 2]) != number(case, at + 3) {
-        return Compared::Differs;
-    }
-    Compared::Same(at + 7)
+    Compared::Differs
 }
 
-fn one_row(case: &[u8], at: usize, rows: &[u32], row: usize, is_tree: bool) -> Compared
+fn one_row(case: &[u8], at: usize, rows: &[u32], row: usize, tree: bool) -> Compared
     requires { ⌜ (at < 2 ^ 38) × (row < 2 ^ 32) ⌝ }
-    ensures { λ r. ⌜ Near at r ⌝ }
+    ensures { λ r.
+        let form = formOf tree in
+        let case = now (case .entry) in
+        ⌜ Compares (at + form .bytes case at) (RowIs form case at (now (rows .entry)) row) r ⌝ }
 {
-    if is_tree {
+    if tree {
         return tree_row(case, at, rows, row);
     }
     dropped_row(case, at, rows, row)
 }
 
 // So many rows of the tree, or of what was dropped, that are recorded from `at` on.
-pub fn rows_from(case: &[u8], at: usize, rows: &[u32], count: usize, is_tree: bool) -> Compared
+pub fn rows_from(case: &[u8], at: usize, rows: &[u32], count: usize, tree: bool) -> Compared
     requires { ⌜ (at < 2 ^ 37) × (count < 2 ^ 32) ⌝ }
-    ensures { λ r. ⌜ Far at r ⌝ }
+    ensures { λ r.
+        let form = formOf tree in
+        let case = now (case .entry) in
+        ⌜ Compares (rowsEnd form case at count) (RowsAre form case at (now (rows .entry)) count) r ⌝ }
 {
     let mut next = at;
     let mut row = 0;
     while row < count {
-        let r = one_row(case, next, rows, row, is_tree);
-        let Compared::Same(behind) = r else {
-            return r;
+        let compared = one_row(case, next, rows, row, tree);
+        let Compared::Same(behind) = compared else {
+            return compared;
         };
         next = behind;
         row = row + 1;

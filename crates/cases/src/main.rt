@@ -1,23 +1,20 @@
 // Replays the recorded list, `cases.bin` of its data folder, and prints how many cases there are and how many of them differ; then of how many
 // accepted ones the texts were put back, and of how many they are not the token texts.
-ghost use mathlib.Core.Path.{_≡_};
-ghost use mathlib.Core.Bool.{cond};
-ghost use Prim.Native.Nat.{_≤_};
 ghost use Rattle.io.specs.Counts.{Counts};
 
 mod back;
 mod bytes;
 mod compare;
+mod recorded;
 mod replay;
+mod tally;
 mod texts;
 
 use bytes::number;
 use libc::STDOUT_FILENO;
 use replay::Replayed;
 use replay::replay;
-
-// No list has more cases: the loop over a file has to end, and nothing says that the file does.
-const MOST: u64 = 1_000_000;
+use tally::Tally;
 
 // The next case into the buffer: how many bytes it has, 0 at the end.
 fn read_case(fd: i32, case: &mut [u8]) -> usize
@@ -49,12 +46,6 @@ fn replay_next(fd: i32) -> Next {
     Next::Case(replay(&case[..size]))
 }
 
-fn one_if(yes: bool) -> u64
-    ensures { λ r. ⌜ (r ≡ cond yes 1 0) × (r ≤ 1) ⌝ }
-{
-    if yes { 1 } else { 0 }
-}
-
 fn print_line(count: u64, what: &[u8], differences: u64) {
     io::print_decimal(STDOUT_FILENO, count);
     io::write_all(STDOUT_FILENO, what);
@@ -63,22 +54,16 @@ fn print_line(count: u64, what: &[u8], differences: u64) {
 }
 
 fn replay_all(fd: i32) {
-    let mut cases: u64 = 0;
-    let mut differences: u64 = 0;
-    let mut accepted: u64 = 0;
-    let mut lost: u64 = 0;
-    while cases < MOST {
+    let mut tally = Tally::NONE;
+    while tally.cases < Tally::MOST {
         let next = replay_next(fd);
         let Next::Case(replayed) = next else {
             break;
         };
-        cases = cases + 1;
-        differences = differences + one_if(!replayed.agrees);
-        accepted = accepted + one_if(replayed.accepted);
-        lost = lost + one_if(replayed.accepted && !replayed.returns);
+        tally = tally.with(replayed);
     }
-    print_line(cases, b" cases, ", differences);
-    print_line(accepted, b" accepted cases put back, ", lost);
+    print_line(tally.cases, b" cases, ", tally.differences);
+    print_line(tally.accepted, b" accepted cases put back, ", tally.lost);
 }
 
 fn main() {

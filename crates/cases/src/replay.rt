@@ -1,84 +1,24 @@
 // One recorded case (README.md of the data folder has the format): the run on its tables, beside the real parser's answer.
+ghost use mathlib.Core.Path.{_≡_};
 ghost use Prim.Native.Nat.{_^_, _≤_, _<_};
 ghost use lib.ListN.{length};
+ghost use Rattle.rules.specs.Checks.{Tables};
+ghost use Rattle.rules.specs.Run.{run as runOf};
 ghost use Rattle.rules.specs.Sheet.{tablesOf};
 ghost use Rattle.rules.specs.Treelist.{mostNumbers};
 ghost use Rattle.sheets.proofs.Answers.{Told};
+ghost use Rattle.cartglaze.specs.Answers.{ranOf};
+ghost use Rattle.cases.specs.Replays.{Judges, Replays, droppedBefore};
 use crate::back::texts_return;
 use crate::bytes::number;
-use crate::bytes::wide;
-use crate::compare::Compared;
-use crate::compare::all_from;
-use crate::compare::rows_from;
+use crate::recorded::BEFORE;
+use crate::recorded::is_recorded;
 use cartglaze::Answer;
 use cartglaze::Sections;
 use cartglaze::Sheet;
 use cartglaze::read;
 use cartglaze::run;
 use syntax::Limits;
-
-// What the buffers hold before a run, so that what is not written can be told.
-const BEFORE: u32 = 4_294_967_295;
-
-// Accepted: refusal 0, both counts, the rows, and behind them the buffers as they were.
-fn is_accepted(
-    case: &[u8],
-    at: usize,
-    tree: &[u32],
-    dropped: &[u32],
-    rows: usize,
-    count: usize,
-) -> bool
-    requires { ⌜ at < 2 ^ 36 ⌝ }
-{
-    if number(case, at) != 0 {
-        return false;
-    }
-    let tree_rows = number(case, at + 4);
-    let dropped_rows = number(case, at + 8);
-    if rows != tree_rows || count != dropped_rows {
-        return false;
-    }
-    let r = rows_from(case, at + 12, tree, tree_rows, true);
-    let Compared::Same(next) = r else {
-        return false;
-    };
-    let q = rows_from(case, next, dropped, dropped_rows, false);
-    let Compared::Same(end) = q else {
-        return false;
-    };
-    end == case.len()
-        && all_from(tree, tree_rows * Limits::TREE_WIDTH, BEFORE)
-        && all_from(dropped, dropped_rows * Limits::DROPPED_WIDTH, BEFORE)
-}
-
-// Refused: number and place, and both buffers zeros.
-fn is_refused(
-    case: &[u8],
-    at: usize,
-    tree: &[u32],
-    dropped: &[u32],
-    refusal: u32,
-    place: usize,
-) -> bool
-    requires { ⌜ at < 2 ^ 36 ⌝ }
-{
-    wide(refusal) == number(case, at)
-        && place == number(case, at + 4)
-        && at + 8 == case.len()
-        && all_from(tree, 0, 0)
-        && all_from(dropped, 0, 0)
-}
-
-// Whether an answer with its buffers is the one that is recorded from `at` on.
-fn is_recorded(case: &[u8], at: usize, tree: &[u32], dropped: &[u32], answer: Answer) -> bool
-    requires { ⌜ at < 2 ^ 36 ⌝ }
-{
-    match answer {
-        Answer::Accepted(rows, count) => is_accepted(case, at, tree, dropped, rows, count),
-        Answer::Refused(refusal, place) => is_refused(case, at, tree, dropped, refusal, place),
-    }
-}
 
 // What a replay says of a case.
 pub struct Replayed {
@@ -92,6 +32,9 @@ pub struct Replayed {
 impl Replayed {
     // A sheet has no more bytes, so that the texts of tokens that do not overlap have room.
     const TEXTS: usize = Sections::MOST_BYTES;
+
+    // The largest tree buffer that a case may ask for.
+    const MOST_ROOM: usize = 16_384;
 
     // A case that cannot be replayed.
     const NOT: Replayed = Replayed {
@@ -112,6 +55,9 @@ fn judged(
     answer: Answer,
 ) -> Replayed
     requires { ⌜ at < 2 ^ 36 ⌝ }
+    ensures { λ r.
+        let ran = ranOf answer (now (tree .entry)) (now (dropped .entry)) in
+        ⌜ Judges (now (case .entry)) at (now (text .entry)) (now (tokens .entry)) ran r ⌝ }
 {
     let agrees = is_recorded(case, at, tree, dropped, answer);
     let Answer::Accepted(rows, drops) = answer else {
@@ -139,7 +85,31 @@ fn judged(
     }
 }
 
-// The run on a sheet that was read, with a dropped buffer of a row for each token.
+// The run on these tables, with a dropped buffer of a row for each token.
+fn run_tables(
+    case: &[u8],
+    at: usize,
+    text: &[u8],
+    tokens: &[u32],
+    shapes: &[u32],
+    states: &[u32],
+    tree: &mut [u32],
+) -> Replayed
+    requires { ⌜ (at < 2 ^ 36) × (length (now tokens) ≤ mostNumbers) ⌝ }
+    ensures { λ r.
+        let text = now (text .entry) in
+        let tokens = now (tokens .entry) in
+        let t : Tables = record { text = text; tokens = tokens; shapes = now (shapes .entry); states = now (states .entry) } in
+        ⌜ Judges (now (case .entry)) at text tokens (runOf t (now (tree .entry)) (droppedBefore tokens)) r ⌝ }
+{
+    let mut dropped = [BEFORE; Sections::MOST_NUMBERS];
+    let room = tokens.len() / Limits::TOKEN_WIDTH * Limits::DROPPED_WIDTH;
+    let lent = &mut dropped[..room];
+    let answer = run(text, tokens, shapes, states, tree, lent);
+    judged(case, at, text, tokens, tree, lent, answer)
+}
+
+// The run on a sheet that was read: the parts of it and of its numbers that its sections tell.
 fn run_sheet(
     case: &[u8],
     at: usize,
@@ -149,42 +119,52 @@ fn run_sheet(
     tree: &mut [u32],
 ) -> Replayed
     requires { ⌜ (at < 2 ^ 36) × (length (now table) ≤ mostNumbers) × Told (now sheet) (tablesOf (now sheet)) sections (now table) ⌝ }
+    ensures { λ r.
+        let t : Tables = tablesOf (now (sheet .entry)) in
+        ⌜ Judges (now (case .entry)) at (t .text) (t .tokens) (runOf t (now (tree .entry)) (droppedBefore (t .tokens))) r ⌝ }
 {
-    let mut dropped = [BEFORE; 8_192];
     let text = &sheet[Sections::TEXT_BYTES..Sections::TEXT_BYTES + sections.text];
     let shapes = sections.tokens;
     let states = shapes + sections.shapes;
     let end = states + sections.states;
-    let tokens = &table[..shapes];
-    let room = sections.tokens / Limits::TOKEN_WIDTH * Limits::DROPPED_WIDTH;
-    let lent = &mut dropped[..room];
-    let answer = run(
+    run_tables(
+        case,
+        at,
         text,
-        tokens,
+        &table[..shapes],
         &table[shapes..states],
         &table[states..end],
         tree,
-        lent,
-    );
-    judged(case, at, text, tokens, tree, lent, answer)
+    )
 }
 
 // A recorded case: its sheet, and behind it the room that the tree had and the answer.
-pub fn replay(case: &[u8]) -> Replayed {
+pub fn replay(case: &[u8]) -> Replayed
+    ensures { λ r. ⌜ Replays (now (case .entry)) r ⌝ }
+{
     let end = 4 + number(case, 0);
     if case.len() < end {
         return Replayed::NOT;
     }
     let sheet = &case[4..end];
     let room = number(case, end);
-    if 16_384 < room {
+    if Replayed::MOST_ROOM < room {
         return Replayed::NOT;
     }
     let mut table = [0u32; Sections::MOST_NUMBERS];
-    let mut tree = [BEFORE; 16_384];
+    let mut tree = [BEFORE; Replayed::MOST_ROOM];
     let found = read(sheet, &mut table);
-    let Sheet::Read(sections) = found else {
-        return Replayed::NOT;
-    };
-    run_sheet(case, end + 4, sheet, sections, &table, &mut tree[..room])
+    match found {
+        Sheet::Read(sections) => run_sheet(
+            case,
+            end + 4,
+            sheet,
+            sections,
+            &table,
+            &mut tree[..room],
+        ),
+        Sheet::Refused => Replayed::NOT,
+        // The numbers of every sheet have room: this does not come.
+        Sheet::NoRoom(_) => Replayed::NOT,
+    }
 }

@@ -2,7 +2,7 @@
 // buffer's end they are counted and not written; the count stays at the largest number once it is there.
 ghost use mathlib.Core.Path.{_≡_};
 ghost use mathlib.Core.List.{[], _∷_};
-ghost use Prim.Native.Nat.{_<_, _≤_, _/_, _^_, min};
+ghost use Prim.Native.Nat.{_+_, _<_, _≤_, _/_, _^_, min};
 ghost use lib.ListN.{length, getD};
 ghost use Rattle.rules.specs.Limits.{droppedWidth};
 ghost use Rattle.rules.specs.Tables.{part};
@@ -55,15 +55,25 @@ pub fn part(out: &mut [u8], at: usize, text: &[u8], start: usize, size: usize) -
     next
 }
 
+// The part of the text whose start and length stand in a table, one behind the other.
+pub fn range(out: &mut [u8], at: usize, text: &[u8], table: &[u32], from: usize) -> usize
+    requires { ⌜ from < 2 ^ 62 ⌝ }
+    ensures { λ r.
+        let table = now (table .entry) in
+        let written = part (now (text .entry)) (getD table from 0) (getD table (from + 1) 0) in
+        ⌜ Wrote written (now (out .entry)) at (now (out .exit)) r ⌝ }
+{
+    let start = cell(table, from);
+    let size = cell(table, from + 1);
+    part(out, at, text, start, size)
+}
+
 // The text of a token.
 pub fn token(out: &mut [u8], at: usize, text: &[u8], tokens: &[u32], index: usize) -> usize
     requires { ⌜ index < 2 ^ 60 ⌝ }
     ensures { λ r. ⌜ Wrote (tokenText (now (text .entry)) (now (tokens .entry)) index) (now (out .entry)) at (now (out .exit)) r ⌝ }
 {
-    let row = index * Limits::TOKEN_WIDTH;
-    let start = cell(tokens, row + 1);
-    let size = cell(tokens, row + 2);
-    part(out, at, text, start, size)
+    range(out, at, text, tokens, index * Limits::TOKEN_WIDTH + 1)
 }
 
 // The texts of all tokens, joined in order.
@@ -89,7 +99,9 @@ pub fn dropped_after(
     leaves: usize,
 ) -> usize
     requires { ⌜ drops ≤ length (now dropped) / droppedWidth ⌝ }
-    ensures { λ r. ⌜ Wrote (droppedAfter leaves (withTexts (now (text .entry)) (now (tokens .entry)) (droppedRows drops (now (dropped .entry))))) (now (out .entry)) at (now (out .exit)) r ⌝ }
+    ensures { λ r.
+        let dropped = withTexts (now (text .entry)) (now (tokens .entry)) (droppedRows drops (now (dropped .entry))) in
+        ⌜ Wrote (droppedAfter leaves dropped) (now (out .entry)) at (now (out .exit)) r ⌝ }
 {
     let mut next = at;
     for row in 0..drops {

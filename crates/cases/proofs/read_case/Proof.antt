@@ -4,19 +4,14 @@ use Prim.Native.Nat.{ℕ, _≤_}
 use native.Mathlib.Omega.{arith}
 use borrow.Author.Needs.{needs}
 use lib.ListN.{length, drop, length-append}
+use Rattle.io.specs.Counts.{Counts}
 use Rattle.cases.proofs.Fronts.{front, counts}
 use Rattle.cases.proofs.read_case.Statement.{statement}
 use Rattle.cases.proofs.read_case.Tie as tie
 
-slice-aggregate-read-full-2 : tie.Need-slice-aggregate-read-full-2
-slice-aggregate-read-full-2 c = front _ _ (let h = c .before .if2 .left in omega arith)
-
 -- what lies in the first bytes lies in all of them
-in-front : (n size : ℕ) (case after : List ℕ) → n ≤ length after → n ≤ length (after ++ drop size case)
-in-front n size case after h = omega (arith, length-append after (drop size case))
-
-returns-3 : tie.Need-returns-3
-returns-3 c = counts _ _ (in-front _ (c .before .before .before .before .before .number .result) (c .before .before .before .before .before .before .before .before .before .before .before .before .args .case .now) (c .before .before .read-full2 .last .1 .0) (c .before .before .read-full2 .ensures .0))
+in-front : (n size : ℕ) (case after : List ℕ) → n ≤ length after → Counts n (after ++ drop size case)
+in-front n size case after h = counts n (after ++ drop size case) (omega (arith, length-append after (drop size case)))
 
 pub read-case-spec : {M : Type 1} → statement M
 read-case-spec =
@@ -29,7 +24,7 @@ read-case-spec =
     (λ c κs. search needs)
     (λ c. search needs)
     (λ c. search needs)
-    slice-aggregate-read-full-2
+    (λ c. front _ _ (c .before .if2 .left))
     (λ c κs. search needs)
     (λ c. search needs)
-    returns-3)
+    (λ c. search in-front))

@@ -1,19 +1,38 @@
 -- `replay_all` is safe and ends: the cases that may yet come fall, and no count passes that of the cases. Assumes nothing.
-use Prim.Native.Nat.{_-_, _≤_}
+use Prim.Native.Nat.{ℕ, _-_, _≤_, _<_}
+use mathlib.Core.Bool.{Bool, true, false, not}
+use mathlib.Core.Path.{_≡_}
 use native.Mathlib.Omega.{arith}
 use borrow.Author.Needs.{needs}
+use Rattle.cases.specs.Tallied.{mostCases, oneIf, isLost, tallied, Tallies}
+use Rattle.cases.specs.declared.replay.Replayed.{Replayed}
+use Rattle.cases.specs.declared.tally.Tally.{Tally}
 use Rattle.cases.proofs.replay_all.Statement.{statement}
 use Rattle.cases.proofs.replay_all.Tie as tie
 
+one-if : (b : Bool) → oneIf b ≤ 1
+one-if true = omega arith
+one-if false = omega arith
+
+module _ (t u : Tally) (r : Replayed) (more : t .cases < mostCases) (is : u ≡ tallied t r) where
+  one-more : Tallies t → Tallies u
+  one-more k =
+      rw is
+      (record {
+        few = omega arith;
+        differences = let low = k .differences in omega (arith, one-if (not (r .agrees)));
+        accepted = let low = k .accepted in omega (arith, one-if (r .accepted));
+        lost = let low = k .lost in omega (arith, one-if (isLost r));
+      })
+
+  fewer-left : mostCases - u .cases < mostCases - t .cases
+  fewer-left = rw is (omega arith)
+
 abbrev Inv-loop : tie.InvT-loop
-Inv-loop fd cases₀ differences₀ accepted₀ lost₀ t8 t9 cases differences accepted lost =
-    (cases ≤ 1000000) × (differences ≤ cases) × (accepted ≤ cases) × (lost ≤ cases)
+Inv-loop fd tally₀ t5 t6 tally = Tallies tally
 
 abbrev μ-loop : tie.MeasureT-loop
-μ-loop fd cases₀ differences₀ accepted₀ lost₀ t8 t9 cases differences accepted lost = 1000000 - cases
-
-loop-again : tie.Need-loop-again Inv-loop μ-loop
-loop-again c = let more = c .before .before .before .before .before .before .before .before .loop-test .taken in let inv = c .before .before .before .before .before .before .before .before .before .loop .inv in (omega arith, omega arith, omega arith, omega arith)
+μ-loop fd tally₀ t5 t6 tally = mostCases - tally .cases
 
 pub replay-all-spec : {M : Type 1} → statement M
 replay-all-spec =
@@ -25,15 +44,9 @@ replay-all-spec =
     (λ c κs. search needs)
     (λ c. search needs)
     (λ c. search needs)
-    (λ c. search needs)
     (λ c κs. search needs)
-    (λ c. search needs)
-    (λ c κs. search needs)
-    (λ c. search needs)
-    (λ c κs. search needs)
-    (λ c. search needs)
-    (λ c. search needs)
-    loop-again
+    (λ c. search fewer-left)
+    (λ c. search one-more)
     (λ c. search needs)
     (λ c κs. search needs)
     (λ c. search needs)

@@ -1,48 +1,65 @@
 -- `back::put_back` meets its contract. The loop's invariant: whatever writes what is put back from a tree row on has written all of it; there are no
 -- more leaves than rows before it. Assumes nothing.
+use mathlib.Core.List.{List}
 use mathlib.Core.Path.{_≡_, _∙_}
-use Prim.Native.Nat.{_*_, _-_, _≤_}
+use Prim.Native.Nat.{ℕ, _+_, _*_, _-_, _^_, _≤_, _<_}
 use borrow.Author.Needs.{needs}
 use native.Mathlib.Nat.{sub-zero}
 use native.Mathlib.Omega.{arith}
-use Rattle.rules.specs.PutBack.{withTexts, treeRows, droppedRows, stored, putBack}
+use lib.ListN.{length, getD}
+use Rattle.rules.specs.Flat.{tagLeaf}
+use Rattle.rules.specs.PutBack.{withTexts, droppedRows, droppedAfter}
+use Rattle.rules.specs.Tables.{part}
+use Rattle.sheets.specs.Contract.{Wrote}
 use Rattle.sheets.proofs.Writing.{Left, begins, turns, goes, closes}
+use Rattle.cases.specs.Back.{Counted, counted, backOf}
 use Rattle.cases.proofs.TextsLeft.{backAt, back-leaf, back-other, back-end}
 use Rattle.cases.proofs.back.put_back.Statement.{statement}
 use Rattle.cases.proofs.back.put_back.Tie as tie
 
+module _ (text tokens tree : List ℕ) (rows : ℕ) (dropped : List ℕ) (drops : ℕ) where
+  abbrev notes : List (List ℕ × List ℕ)
+  notes = withTexts text tokens (droppedRows drops dropped)
+
+  abbrev whole : List ℕ
+  whole = backOf (counted text tokens tree rows dropped drops)
+
+  -- whatever writes what is put back from a tree row on, before which there are so many leaves, has written all of it
+  record Rest (leaves row : ℕ) (out : List ℕ) (next : ℕ) (out₀ : List ℕ) : Type 0 where
+    few : leaves ≤ row
+    left : Left (backAt text tree rows notes leaves row) out next whole out₀ 0
+
+  opens : (out : List ℕ) → length out * 1 < 2 ^ 63 → Rest 0 0 out 0 out
+  opens out short = record { few = omega arith; left = turns (rw sub-zero) (begins whole (omega arith) (omega arith)) }
+
+  module _ {leaves row next : ℕ} {out out₀ : List ℕ} (rest : Rest leaves row out next out₀) where
+    kept : (v : List ℕ) → length v ≡ length out → length v ≡ length out₀
+    kept v e = e ∙ rest .left .kept
+
+    all : {v : List ℕ} {r : ℕ} → rows ≤ row → Wrote (droppedAfter leaves notes) out next v r → Wrote whole out₀ 0 v r
+    all done wrote = closes (turns (back-end text tree rows notes leaves row done) (rest .left)) wrote
+
+    module _ (more : row < rows) where
+      no-leaf : (getD tree (row * 4) 0 ≡ tagLeaf → ⊥) → Rest leaves (row + 1) out next out₀
+      no-leaf other =
+          let few = rest .few in
+          record { few = omega arith; left = turns (back-other text tree rows notes leaves row more other) (rest .left) }
+
+      leaf : {v w : List ℕ} {half r : ℕ} → getD tree (row * 4) 0 ≡ tagLeaf → Wrote (droppedAfter leaves notes) out next v half
+          → Wrote (part text (getD tree (row * 4 + 2) 0) (getD tree (row * 4 + 2 + 1) 0)) v half w r
+          → Rest (leaves + 1) (row + 1) w r out₀
+      leaf is before wrote =
+          let few = rest .few in
+          let third : row * 4 + 2 + 1 ≡ row * 4 + 3 = omega arith in
+          let this = turns (back-leaf text tree rows notes leaves row more is) (rest .left) in
+          record { few = omega arith; left = goes (goes this before) (rw third at wrote) }
+
 abbrev Inv-loop : tie.InvT-loop
 Inv-loop out₀ text tokens tree rows dropped drops next₀ leaves₀ row₀ out next leaves row =
-    (leaves ≤ row) × Left (backAt text tree rows (withTexts text tokens (droppedRows drops dropped)) leaves row) out next (putBack (stored text tokens (treeRows rows tree) (droppedRows drops dropped))) out₀ 0
+    Rest text tokens tree rows dropped drops leaves row out next out₀
 
 abbrev μ-loop : tie.MeasureT-loop
 μ-loop out₀ text tokens tree rows dropped drops next₀ leaves₀ row₀ out next leaves row = rows - row
-
-loop-holds : tie.Need-loop-holds Inv-loop μ-loop
-loop-holds c = (search needs, turns (rw (sub-zero (c .before .before .before .before .before .args .rows))) (begins _ (omega arith) (omega arith)))
-
-loop-again : tie.Need-loop-again Inv-loop μ-loop
-loop-again c =
-    let a = c .before .before .before .before .before .before .before .before .before .args in
-    let dropped = withTexts (a .text .now) (a .tokens .now) (droppedRows (a .drops) (a .dropped .now)) in
-    let few = c .before .before .before .loop .inv .0 in
-    (omega arith, turns (back-other (a .text .now) (a .tree .now) (a .rows) dropped (c .before .before .before .loop .leaves) (c .before .before .before .loop .row) (c .before .before .loop-test .taken) (c .if1 .taken)) (c .before .before .before .loop .inv .1))
-
-loop-again-2 : tie.Need-loop-again-2 Inv-loop μ-loop
-loop-again-2 c =
-    let a = c .before .before .before .before .before .before .before .before .before .before .before .before .before .before .before .before .before .before .before .args in
-    let dropped = withTexts (a .text .now) (a .tokens .now) (droppedRows (a .drops) (a .dropped .now)) in
-    let few = c .before .before .before .before .before .before .before .before .before .before .before .before .before .loop .inv .0 in
-    (omega arith, goes (goes (turns (back-leaf (a .text .now) (a .tree .now) (a .rows) dropped (c .before .before .before .before .before .before .before .before .before .before .before .before .before .loop .leaves) (c .before .before .before .before .before .before .before .before .before .before .before .before .before .loop .row) (c .before .before .before .before .before .before .before .before .before .before .before .before .loop-test .taken) (c .before .before .before .before .before .before .before .before .before .before .if1 .left)) (c .before .before .before .before .before .before .before .before .before .before .before .before .before .loop .inv .1)) (c .before .before .before .before .before .before .before .before .dropped-after .ensures)) (rw (c .before .before .before .before .before .cell .ensures .0, c .before .before .before .before .cell2 .ensures .0) at (c .before .before .part .ensures)))
-
-same-length : tie.Need-same-length Inv-loop μ-loop
-same-length c = c .before .before .dropped-after2 .kept .0 ∙ c .before .before .before .before .before .loop .inv .1 .kept
-
-returns : tie.Need-returns Inv-loop μ-loop
-returns c =
-    let a = c .before .before .before .before .before .before .before .before .before .before .before .args in
-    let dropped = withTexts (a .text .now) (a .tokens .now) (droppedRows (a .drops) (a .dropped .now)) in
-    closes (turns (back-end (a .text .now) (a .tree .now) (a .rows) dropped (c .before .before .before .before .before .loop .leaves) (c .before .before .before .before .before .loop .row) (c .before .before .before .before .loop-test .left)) (c .before .before .before .before .before .loop .inv .1)) (c .before .before .dropped-after2 .ensures)
 
 pub put-back-spec : {M : Type 1} → statement M
 put-back-spec =
@@ -50,23 +67,20 @@ put-back-spec =
     (tie.spec
     Inv-loop
     μ-loop
-    loop-holds
+    (λ c. search opens)
     (λ c. search needs)
     (λ c. search needs)
     (λ c. search needs)
     (λ c. search needs)
     (λ c. search needs)
-    loop-again
+    (λ c. search no-leaf)
     (λ c κs. search needs)
     (λ c. search needs)
     (λ c κs. search needs)
     (λ c. search needs)
-    (λ c κs. search needs)
-    (λ c κs. search needs)
     (λ c. search needs)
     (λ c. search needs)
-    (λ c. search needs)
-    loop-again-2
+    (λ c. search leaf)
     (λ c κs. search needs)
-    same-length
-    returns)
+    (λ c. search kept)
+    (λ c. search all))

@@ -1,19 +1,18 @@
--- `texts::cell` meets its contract: past the table's end the list's default is 0. Assumes nothing.
-use mathlib.Core.Path.{refl, sym}
+-- `texts::cell` meets its contract: past the table's end 0 counts. Assumes nothing.
+use mathlib.Core.Path.{refl}
 use borrow.Author.Needs.{needs}
 use native.Mathlib.Omega.{arith}
-use lib.ListN.{List·getD-eq-default}
+use Rattle.cases.proofs.Fronts.{past-end}
 use Rattle.cases.proofs.texts.cell.Statement.{statement}
 use Rattle.cases.proofs.texts.cell.Tie as tie
 
-cast-result : tie.Need-cast-result
-cast-result c = omega (arith, c .shared-slice-known .given (c .before .before .args .at))
-
-returns : tie.Need-returns
-returns c = (refl, omega (arith, c .shared-slice-known .given (c .before .before .args .at)))
-
-returns-2 : tie.Need-returns-2
-returns-2 c = (sym (List·getD-eq-default (c .before .args .table .now) 0 (c .if1 .left)), search needs)
-
+-- what is known of the element that is read
 pub cell-spec : {M : Type 1} → statement M
-cell-spec = tie.close (tie.spec (λ c. search needs) (λ c. search needs) cast-result returns returns-2)
+cell-spec =
+    tie.close
+    (tie.spec
+    (λ c. search needs)
+    (λ c. search needs)
+    (λ c. omega (arith, c .shared-slice-known .given (c .before .before .args .at)))
+    (λ c. (refl, omega (arith, c .shared-slice-known .given (c .before .before .args .at))))
+    (λ c. (search past-end, search needs)))

@@ -1,5 +1,5 @@
 -- `texts::part` meets its contract. The loop's invariant: whatever writes the bytes from i on has written the part. Assumes nothing.
-use mathlib.Core.Path.{_≡_, sym}
+use mathlib.Core.Path.{_≡_}
 use Prim.Native.Nat.{_-_, _≤_}
 use borrow.Author.Needs.{needs}
 use native.Mathlib.Omega.{arith}
@@ -18,17 +18,7 @@ abbrev μ-loop : tie.MeasureT-loop
 μ-loop out₀ at text start size end next₀ i₀ out next i = end - i
 
 loop-holds : tie.Need-loop-holds Inv-loop μ-loop
-loop-holds c = let end = c .least .ensures in (omega arith, turns (part-cut _ _ _ _ (c .least .ensures)) (begins _ (omega arith) (omega arith)))
-
-loop-again : tie.Need-loop-again Inv-loop μ-loop
-loop-again c =
-    (c .before .before .before .before .before .before .loop .inv .0, goes (turns (part-next _ _ _ (c .before .before .before .before .before .loop-test .taken) (c .before .before .before .before .before .before .loop .inv .0)) (c .before .before .before .before .before .before .loop .inv .1)) (c .before .before .put .ensures))
-
-same-length : tie.Need-same-length Inv-loop μ-loop
-same-length c = c .before .loop .inv .1 .kept
-
-returns : tie.Need-returns Inv-loop μ-loop
-returns c = ends (turns (part-end _ _ _ (c .loop-test .left)) (c .before .loop .inv .1))
+loop-holds c = let end = c .least .ensures in (omega arith, turns (part-cut _ _ _ _ end) (begins _ (omega arith) (omega arith)))
 
 pub part-spec : {M : Type 1} → statement M
 part-spec =
@@ -43,6 +33,6 @@ part-spec =
     (λ c κs. search needs)
     (λ c. search needs)
     (λ c. search needs)
-    loop-again
-    same-length
-    returns)
+    (λ c. (search, search (goes, turns, part-next)))
+    (λ c. search)
+    (λ c. search (ends, turns, part-end)))
