@@ -20,7 +20,7 @@ use Rattle.rules.specs.Matcher.{Matcher, startMatch, isGreedy, formLeft1
 use Rattle.rules.specs.Outcome.{Out, went, bind, greedyEnvironment, markBeforeNode, tooManyOpen}
 use Rattle.rules.specs.Placed.{Placed, Places, leaf, node, none, more, places, leavesIn, leavesAll, Placing, firstOf, leafed, opened, openedAt, closed, noted, placing, nothing}
 use Rattle.rules.specs.Position.{Shape, Source, At, place, asked, steps, holdingNone, start, startAt, finish, wrap}
-use Rattle.rules.specs.Reading.{items, itemList, itemGroup, piece, argument, chosen, choiceFor, arguments, matchArguments, greedyItems, greedyArgument, greedyCommand, matchedCommand, commandOf, environmentArguments, beginClause, environmentItem, itemLr, script, attachmentAt, attachTo, attachComponent, readItem, contentFor, content, contentAt, parse}
+use Rattle.rules.specs.Reading.{items, itemList, itemGroup, piece, argument, chosen, choiceFor, arguments, matchArguments, argumentsOf, withArguments, greedyItems, greedyArgument, greedyCommand, commandOf, beginClause, environmentItem, itemLr, script, attachmentAt, attachTo, attachComponent, readItem, contentFor, content, contentAt, parse}
 use Rattle.rules.specs.Routines.{eatAs, eat, eatIf, eatWhile, turns, trivia, singleChar, oneIn, holdTrivia, dropFrom, ignoreHoldingTrivia, leavesFrom, extractHoldingTrivia, text, delimiterOf, delimiter, clauseLr, dropNext, eatBodyOfIfs, skippedBody, startAround, orElse, left1Command, argumentBegins, argumentEnds, argumentNode, endClause, rightClause}
 use Rattle.rules.specs.Rowan.{markPastLast}
 use Rattle.rules.specs.Scope
@@ -658,14 +658,23 @@ module _ (source : Source) where
         let begun = startAround-begun (droppedAll source) SyntaxKind.ItemCmd o g p (wraps-all (place placing p)) h in
         begun-in (startAround placing source SyntaxKind.ItemCmd o) p (weaker-goes as-under begun) ordinary (eat-in and greedyArgument-in and no-more)
 
-    matchedCommand-in : (m : Matcher) → KeepIf Passing (matchedCommand placing source inner m)
-    unfolding matchedCommand isBody
-    matchedCommand-in m g p passing h =
+    argumentsOf-in : (s : Shape) {g : Ground} {kind from : ℕ}
+        → Takes (Named g kind from) (Holding g kind from) (argumentsOf placing source inner s)
+    unfolding argumentsOf
+    argumentsOf-in s p h =
+        cond-goes (nameOnly s) (λ _. goes (held-none p h))
+        (λ _. cond-goes (isGreedy (startMatch (s .form) (s .value))) (λ _. stopped greedyEnvironment (place placing p))
+        (λ _. matchArguments-in (startMatch (s .form) (s .value)) p h))
+
+    withArguments-in : (kind : ℕ) (s : Shape) → ((from : ℕ) → isBody source kind from ≡ false)
+        → KeepIf (λ p. passes source kind (place placing p) ≡ true) (withArguments placing source inner kind s)
+    unfolding withArguments
+    withArguments-in kind s no-body g p passing h =
         let from = place placing p in
-        from-goes (start-begun (droppedPassing source from) SyntaxKind.ItemCmd g p (wraps-passing from) h
+        from-goes (start-begun (droppedPassing source from) kind g p (wraps-passing from) h
         first name-in
-        then matchArguments-in m
-        then finish-passing refl passing
+        then argumentsOf-in s
+        then finish-passing (no-body from) passing
         then extract-in g
         then done)
 
@@ -680,7 +689,7 @@ module _ (source : Source) where
         then done)
 
     commandOf-in : (s : Shape) → KeepIf (λ p. greedyName source (place placing p) ≡ among (s .form) greedyForms) (commandOf placing source inner s)
-    unfolding commandOf
+    unfolding commandOf isBody
     commandOf-in s g p is h =
         let from = place placing p in
         let takes-all = greedy-is (s .form) (s .value) in
@@ -691,28 +700,14 @@ module _ (source : Source) where
         (λ e. greedyCommand-in (p .list .start) g _ (cmd-plain from s is (infix-greedy (s .form) e)) h)
         (λ _. cond-goes (isGreedy (startMatch (s .form) (s .value)))
         (λ e. greedyCommand-in none g p (cmd-plain from s is (sym takes-all ∙ e)) h)
-        (λ e. matchedCommand-in _ g p (cmd-passes from s is (sym takes-all ∙ e)) h))))
+        (λ e. withArguments-in SyntaxKind.ItemCmd s (λ _. refl) g p (cmd-passes from s is (sym takes-all ∙ e)) h))))
 
     -- ---- environments, left-right bodies, attachments
-
-    environmentArguments-in : (s : Shape) {g : Ground} {kind from : ℕ}
-        → Takes (Named g kind from) (Holding g kind from) (environmentArguments placing source inner s)
-    unfolding environmentArguments
-    environmentArguments-in s p h =
-        cond-goes (nameOnly s) (λ _. goes (held-none p h))
-        (λ _. cond-goes (isGreedy (startMatch (s .form) (s .value))) (λ _. stopped greedyEnvironment (place placing p))
-        (λ _. matchArguments-in (startMatch (s .form) (s .value)) p h))
 
     beginClause-in : Keep (beginClause placing source inner)
     unfolding beginClause isBody passes
     beginClause-in g p h =
-        let from = place placing p in
-        from-goes (start-begun (droppedPassing source from) SyntaxKind.ItemBegin g p (wraps-passing from) h
-        first name-in
-        then environmentArguments-in (ofClass classEnvironment (source .shape from))
-        then finish-passing refl refl
-        then extract-in g
-        then done)
+        withArguments-in SyntaxKind.ItemBegin (ofClass classEnvironment (source .shape (place placing p))) (λ _. refl) g p refl h
 
     endClause-in : Keep (endClause placing source)
     unfolding endClause

@@ -17,7 +17,7 @@ use Rattle.rules.specs.Matcher.{Matcher, Tried, Matched, term, bracket, 
 use Rattle.rules.specs.Matcher
 use Rattle.rules.specs.Outcome.{refused, greedyEnvironment, tooManyOpen}
 use Rattle.rules.specs.Position.{Shape, Source, At, Rule, steps, asked, place, start}
-use Rattle.rules.specs.Reading.{shapeHere, lastAfter, items, itemList, itemGroup, piece, argument, chosen, choiceFor, arguments, matchArguments, greedyItems, greedyArgument, greedyCommand, matchedCommand, commandOf, environmentArguments, beginClause, environmentItem, itemLr, script, attachmentAt, attachTo, attachComponent, readItem, contentFor, content, contentAt, parse}
+use Rattle.rules.specs.Reading.{shapeHere, lastAfter, items, itemList, itemGroup, piece, argument, chosen, choiceFor, arguments, matchArguments, argumentsOf, withArguments, greedyItems, greedyArgument, greedyCommand, commandOf, beginClause, environmentItem, itemLr, script, attachmentAt, attachTo, attachComponent, readItem, contentFor, content, contentAt, parse}
 use Rattle.rules.specs.Routines.{next, turns, argumentBegins, argumentEnds, argumentNode}
 use Rattle.rules.specs.Scope
 use Rattle.rules.specs.Scope.{Scope, stops, among}
@@ -209,9 +209,9 @@ module _ {B : Builder} {source : Source} (K : Handed B source) (sound : Sound so
       greedyArgument-if p h =
           from-goes (start-if K sound SyntaxKind.ClauseArgument p h first greedyItems-if then finish-if K sound SyntaxKind.ClauseArgument _ then done)
 
-      environmentArguments-if : (s : Shape) → Takes (F n) (H n) (environmentArguments B source i s)
-      unfolding environmentArguments
-      environmentArguments-if s p h =
+      argumentsOf-if : (s : Shape) → Takes (F n) (H n) (argumentsOf B source i s)
+      unfolding argumentsOf
+      argumentsOf-if s p h =
           cond-goes (nameOnly s) (λ _. goes (held-none K sound p h))
           (λ _. cond-goes (isGreedy (startMatch (s .form) (s .value))) (λ _. stopped greedyEnvironment (place B p)) (λ _. matchArguments-if _ p h))
 
@@ -232,13 +232,13 @@ module _ {B : Builder} {source : Source} (K : Handed B source) (sound : Sound so
           then finish-if K sound SyntaxKind.ItemCmd _
           then done)
 
-      matchedCommand-if : (m : Matcher) → Takes (N also n) (F n) (matchedCommand B source i m)
-      unfolding matchedCommand
-      matchedCommand-if m p h =
-          from-goes (start-if K sound SyntaxKind.ItemCmd p h
+      withArguments-if : (kind : ℕ) (s : Shape) → Takes (N also n) (F n) (withArguments B source i kind s)
+      unfolding withArguments
+      withArguments-if kind s p h =
+          from-goes (start-if K sound kind p h
           first eat-if K sound
-          then matchArguments-if m
-          then finish-held K sound SyntaxKind.ItemCmd _
+          then argumentsOf-if s
+          then finish-held K sound kind _
           then extract-if K sound
           then done)
 
@@ -249,17 +249,11 @@ module _ {B : Builder} {source : Source} (K : Handed B source) (sound : Sound so
           (λ _. cond-goes (eqb (s .form) formLeft1) (λ _. left1Command-if K sound p h)
           (λ _. cond-goes (eqb (s .form) formInfixGreedy) (λ _. greedyCommand-if (p .list .start) _ h)
           (λ _. cond-goes (isGreedy (startMatch (s .form) (s .value))) (λ _. greedyCommand-if none p h)
-          (λ _. matchedCommand-if _ p h))))
+          (λ _. withArguments-if SyntaxKind.ItemCmd s p h))))
 
       beginClause-if : Takes (N also n) (F n) (beginClause B source i)
       unfolding beginClause
-      beginClause-if p h =
-          from-goes (start-if K sound SyntaxKind.ItemBegin p h
-          first eat-if K sound
-          then environmentArguments-if (shapeHere B source classEnvironment p)
-          then finish-held K sound SyntaxKind.ItemBegin _
-          then extract-if K sound
-          then done)
+      beginClause-if p h = withArguments-if SyntaxKind.ItemBegin (shapeHere B source classEnvironment p) p h
 
       itemLr-if : Takes (N also n) (F n) (itemLr B source i)
       unfolding itemLr

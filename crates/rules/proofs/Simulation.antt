@@ -18,7 +18,7 @@ use Rattle.rules.specs.Kinds.{isTrivia, isTextComponent}
 use Rattle.rules.specs.Matcher.{Matcher, startMatch, isGreedy, formLeft1, formInfixGreedy}
 use Rattle.rules.specs.Outcome.{Out, went, refused, bind, greedyEnvironment, tooManyOpen}
 use Rattle.rules.specs.Position.{Shape, Source, At, Rule, place, asked, withLexer, withList, withMarks, holdingNone, leaf, start, startAt, finish, wrap}
-use Rattle.rules.specs.Reading.{items, itemList, itemGroup, piece, argument, chosen, choiceFor, arguments, matchArguments, greedyItems, greedyArgument, greedyCommand, matchedCommand, commandOf, environmentArguments, beginClause, environmentItem, itemLr, script, attachmentAt, attachTo, attachComponent, readItem, contentFor, content, contentAt, parseAt, parse}
+use Rattle.rules.specs.Reading.{items, itemList, itemGroup, piece, argument, chosen, choiceFor, arguments, matchArguments, argumentsOf, withArguments, greedyItems, greedyArgument, greedyCommand, commandOf, beginClause, environmentItem, itemLr, script, attachmentAt, attachTo, attachComponent, readItem, contentFor, content, contentAt, parseAt, parse}
 use Rattle.rules.specs.Routines.{eatAs, eat, eatIf, eatWhile, turns, trivia, singleChar, oneIn, dropFrom, ignoreHoldingTrivia, leavesFrom, extractHoldingTrivia, text, delimiterOf, delimiter, clauseLr, dropNext, eatBodyOfIfs, skippedBody, startAround, left1Command, argumentBegins, argumentEnds, argumentNode, endClause, rightClause}
 use Rattle.rules.specs.Scope
 use Rattle.rules.specs.Scope.{Scope, stops}
@@ -469,10 +469,10 @@ module _ {A B : Builder} {Skip May : ℕ → Type 0} (Z : Sim A B Skip May) wher
             let inside : Lists A B = record { scope = marks .scope; start = none; last = none } in
             from~ (went~ (near c (c .token) inside nil r) ▸ allArguments~ m ⨾ relist~ (startOnly marks) (around marks fits) ⨾ done~)
 
-        environmentArguments~ : (s : Shape) (l : Marked A B)
-            → Quiet (top ∷ w) (Among l) (environmentArguments A source i s) (environmentArguments B source j s)
-        unfolding environmentArguments
-        environmentArguments~ s l _ _ (near c h m among r) =
+        argumentsOf~ : (s : Shape) (l : Marked A B)
+            → Quiet (top ∷ w) (Among l) (argumentsOf A source i s) (argumentsOf B source j s)
+        unfolding argumentsOf
+        argumentsOf~ s l _ _ (near c h m among r) =
             let here = near c h m among r in
             cond~ (nameOnly s) (λ _. heldNone~ _ _ here)
             (λ _. cond~ (isGreedy (startMatch (s .form) (s .value))) (λ _. refused~ greedyEnvironment (c .token) (Z .greedy))
@@ -503,20 +503,15 @@ module _ {A B : Builder} {Skip May : ℕ → Type 0} (Z : Sim A B Skip May) wher
         unfolding greedyArgument
         greedyArgument~ around _ _ h = from~ (start~ SyntaxKind.ClauseArgument h ▸ greedyItems~ deep around ⨾ finish~ ⨾ done~)
 
-        matchedCommand~ : (m : Matcher) {P P′ : Holds}
-            → Around P P′
-            → Takes (Near Z (top ∷ w) P) (Near Z (top ∷ w) P′) (matchedCommand A source i m) (matchedCommand B source j m)
-        unfolding matchedCommand
-        matchedCommand~ m around _ _ h =
-            from~ (start~ SyntaxKind.ItemCmd h ▸ eat~ ⨾ matchArguments~ (le-step deep) m around ⨾ finish~ ⨾ extract~ ⨾ done~)
+        withArguments~ : (kind : ℕ) (s : Shape) (l : Marked A B)
+            → Quiet (top ∷ w) (Among l) (withArguments A source i kind s) (withArguments B source j kind s)
+        unfolding withArguments
+        withArguments~ kind s l _ _ h = from~ (start~ kind h ▸ eat~ ⨾ argumentsOf~ (le-step deep) s l ⨾ finish~ ⨾ extract~ ⨾ done~)
 
         beginClause~ : (l : Marked A B) → Quiet (top ∷ w) (Among l) (beginClause A source i) (beginClause B source j)
         unfolding beginClause
         beginClause~ l _ _ (near c h m among r) =
-            let shape = ofClass classEnvironment (source .shape (c .token)) in
-            from~
-            (start~ SyntaxKind.ItemBegin {P = Among l} (near c h m among r)
-            ▸ eat~ ⨾ environmentArguments~ (le-step deep) shape l ⨾ finish~ ⨾ extract~ ⨾ done~)
+            withArguments~ SyntaxKind.ItemBegin (ofClass classEnvironment (source .shape (c .token))) l _ _ (near c h m among r)
 
         itemLr~ : {P : Holds} → Quiet (top ∷ w) P (itemLr A source i) (itemLr B source j)
         unfolding itemLr
@@ -589,7 +584,7 @@ module _ {A B : Builder} {Skip May : ℕ → Type 0} (Z : Sim A B Skip May) wher
             (λ e. wrapped~ (rw (d, e)) (sub-nil l) (infixCommand~ _ _ here))
             (λ _. cond~ (isGreedy (startMatch (s .form) (s .value)))
             (λ _. plain~ _ (greedyCommand~ deep (around-among l) (at-none _) here))
-            (λ _. plain~ _ (matchedCommand~ deep _ (around-among l) _ _ here)))))
+            (λ _. plain~ _ (withArguments~ deep SyntaxKind.ItemCmd s l _ _ here)))))
 
         attachTo~ : (hasScript : Bool) (s : Scope) (first last : Option Two) (c : Cursor) (h : ℕ) {a : A .State} {b : B .State}
             → Sub (listed last ++ listed first) l

@@ -106,6 +106,26 @@ module _ (B : Builder) (source : Source) where
         ∷ [])
         p
 
+    -- the arguments that a shape asks for. "environment whose class 2 shape is greedy, when its arguments are to be read" is refused 5; a greedy
+    -- command is read by `greedyCommand` and doesn't come here
+    unfoldable pub argumentsOf : Shape → Rule B
+    argumentsOf s p =
+        cond (nameOnly s) (went (holdingNone B p))
+        (cond (isGreedy (startMatch (s .form) (s .value))) (refused greedyEnvironment (place B p))
+        (matchArguments (startMatch (s .form) (s .value)) p))
+
+    -- a name and the arguments that a shape asks for, in a node of a kind; behind it the trivia that is left:  \f12   Cmd[\f Arg[1] Arg[2]]
+    unfoldable pub withArguments : ℕ → Shape → Rule B
+    withArguments kind s p =
+        steps
+        (start B kind
+        ∷ eat B source
+        ∷ argumentsOf s
+        ∷ finish B kind (B .frame (p .built))
+        ∷ extractHoldingTrivia B source
+        ∷ [])
+        p
+
     -- `match_arguments` of a greedy command. "Start is .. a new mark inside greedy ones." "`[` and `(` are eaten plain. Last becomes the mark before
     -- each opening brace's item, plain ones too, and each attachable item": that is what reading these as items does
     unfoldable pub greedyItems : Rule B
@@ -140,18 +160,6 @@ module _ (B : Builder) (source : Source) where
         ∷ [])
         p
 
-    -- a command whose arguments a matcher takes:  \f12   Cmd[\f Arg[1] Arg[2]]
-    unfoldable pub matchedCommand : Matcher → Rule B
-    matchedCommand m p =
-        steps
-        (start B SyntaxKind.ItemCmd
-        ∷ eat B source
-        ∷ matchArguments m
-        ∷ finish B SyntaxKind.ItemCmd (B .frame (p .built))
-        ∷ extractHoldingTrivia B source
-        ∷ [])
-        p
-
     -- `command`, by its shape
     unfoldable pub commandOf : Shape → Rule B
     commandOf s p =
@@ -161,28 +169,13 @@ module _ (B : Builder) (source : Source) where
         -- "Infix-greedy: takes start away and wraps from it if there was one"
         (cond (eqb (s .form) formInfixGreedy) (greedyCommand (p .list .start) (withMarks B none (p .list .last) p))
         (cond (isGreedy (startMatch (s .form) (s .value))) (greedyCommand none p)
-        (matchedCommand (startMatch (s .form) (s .value)) p))))
+        (withArguments SyntaxKind.ItemCmd s p))))
 
     -- ---- environments, left-right bodies, attachments
 
-    -- the arguments of a \begin: "environment whose class 2 shape is greedy, when its arguments are to be read" is refused 5
-    unfoldable pub environmentArguments : Shape → Rule B
-    environmentArguments s p =
-        cond (nameOnly s) (went (holdingNone B p))
-        (cond (isGreedy (startMatch (s .form) (s .value))) (refused greedyEnvironment (place B p))
-        (matchArguments (startMatch (s .form) (s .value)) p))
-
-    -- the \begin: its name, its arguments on the marks and stops of the list around it, and behind its node the trivia that is left
+    -- the \begin: its name, and its arguments on the marks and stops of the list around it
     unfoldable pub beginClause : Rule B
-    beginClause p =
-        steps
-        (start B SyntaxKind.ItemBegin
-        ∷ eat B source
-        ∷ environmentArguments (shapeHere classEnvironment p)
-        ∷ finish B SyntaxKind.ItemBegin (B .frame (p .built))
-        ∷ extractHoldingTrivia B source
-        ∷ [])
-        p
+    beginClause p = withArguments SyntaxKind.ItemBegin (shapeHere classEnvironment p) p
 
     -- `environment`, "as the source has" it:  \begin{m}a\end{m}   Env[Begin[m] Text[a] End[m]]
     unfoldable pub environmentItem : Rule B
