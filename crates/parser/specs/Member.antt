@@ -8,17 +8,15 @@ use mathlib.Core.Option.{Option}
 use lib.ListN.{length}
 use Rattle.rules.specs.Checks.{Tables, shapeOf, sourceOf}
 use Rattle.rules.specs.Flat.{flat}
-use Rattle.rules.specs.Items.{greedyStops, nameOnly, ofClass}
+use Rattle.rules.specs.Items.{greedyStops, ofClass}
 use Rattle.rules.specs.Limits.{shapeWidth}
-use Rattle.rules.specs.Matcher.{Matcher, isGreedy, startMatch}
+use Rattle.rules.specs.Matcher.{Matcher}
 use Rattle.rules.specs.Outcome.{Out}
 use Rattle.rules.specs.Position.{Rule, Shape, asked}
 use Rattle.rules.specs.Reading.{content, contentAt, items, itemList, lastAfter, arguments, greedyItems}
 use Rattle.rules.specs.Routines.{turns}
 use Rattle.rules.specs.Scope.{Scope, stops}
 use Rattle.rules.specs.Tables.{tokenCount, shapeAt}
-use Rattle.items.specs.Items.{shapeFor}
-use Rattle.items.specs.declared.shape.Shape.{Shape as CodeShape}
 use Rattle.routines.specs.Stands.{Buffers, Here, posOf, markAt, keptOf, markIn, noMark}
 use Rattle.routines.specs.Change.{relisted, remarked}
 use Rattle.routines.specs.Contract.{Runs, Slice, Moments}
@@ -163,8 +161,3 @@ allArguments t m n inner q = arguments (flat n) (sourceOf t) inner (turns (flat 
 -- the shape of the next token, where one of this class is asked for
 abbrev pub shapeIn : Tables → ℕ → Parser → Shape
 shapeIn t class p = ofClass class (shapeOf t (p .lexer .token))
-
--- a shape whose arguments a matcher takes: a name alone has none, and a greedy one takes all
-pub record Matches (s : CodeShape) : Type 0 where
-  pub asks : nameOnly (shapeFor s) ≡ false
-  pub some : isGreedy (startMatch (s .form) (s .value)) ≡ false

@@ -6,14 +6,13 @@ ghost use mathlib.Core.Bool.{false};
 ghost use Rattle.rules.specs.Checks.{sourceOf};
 ghost use Rattle.rules.specs.Flat.{flat};
 ghost use Rattle.rules.specs.Items.{classCommand};
-ghost use Rattle.rules.specs.Matcher.{startMatch};
 ghost use Rattle.rules.specs.Reading as spec;
 ghost use Rattle.arg_match.specs.Answers.{matcherOf};
 ghost use Rattle.items.specs.Items.{shapeFor, pieceFor};
 ghost use Rattle.routines.specs.Contract.{MarkOk, Ready, Holding};
 ghost use Rattle.routines.specs.Stands.{keptOf, optionOf};
 ghost use Rattle.syntax.specs.ParseScope.{scopeOf};
-ghost use Rattle.parser.specs.Member.{given, lent, Opened, Stayed, Matches, Next, NextIf, gainOf, itemsOf, insideOf, allArguments, shapeIn};
+ghost use Rattle.parser.specs.Member.{given, lent, Opened, Stayed, Next, NextIf, gainOf, itemsOf, insideOf, allArguments, shapeIn};
 use arg_match::ArgMatcher;
 use arg_match::Argument;
 use arg_match::Tried;
@@ -284,7 +283,7 @@ fn match_arguments(
 ) -> Step
     requires { let t = given text tokens shapes states in ⌜ Ready t p (lent tree dropped) ⌝ }
     ensures { λ r. ⌜
-        Opened text tokens shapes states tree dropped p r 0 (λ t n inner. spec.environmentArguments (flat n) (sourceOf t) inner (shapeFor shape)) ⌝ }
+        Opened text tokens shapes states tree dropped p r 0 (λ t n inner. spec.argumentsOf (flat n) (sourceOf t) inner (shapeFor shape)) ⌝ }
 {
     if shape.name_only() {
         return Step::Went(p.holding_none());
@@ -352,9 +351,9 @@ fn greedy_command(
     taken.finish_node(tree, SyntaxKind::ITEM_CMD, p.builder.frame())
 }
 
-// A command whose arguments a matcher takes; what is left held follows its node.
+// A name with the arguments that its shape asks for, in a node of a kind; what is left held follows the node.
 //  \f12   Cmd[\f Arg[1] Arg[2]]
-fn matched(
+fn with_arguments(
     text: &[u8],
     tokens: &[u32],
     shapes: &[u32],
@@ -362,14 +361,15 @@ fn matched(
     tree: &mut [u32],
     dropped: &mut [u32],
     p: Parser,
+    kind: u32,
     shape: Shape,
 ) -> Step
-    requires { let t = given text tokens shapes states in ⌜ Ready t p (lent tree dropped) × Next t p × Matches shape ⌝ }
+    requires { let t = given text tokens shapes states in ⌜ Ready t p (lent tree dropped) × Next t p ⌝ }
     ensures { λ r. ⌜
         Opened text tokens shapes states tree dropped p r 1
-        (λ t n inner. spec.matchedCommand (flat n) (sourceOf t) inner (startMatch (shape .form) (shape .value))) ⌝ }
+        (λ t n inner. spec.withArguments (flat n) (sourceOf t) inner kind (shapeFor shape)) ⌝ }
 {
-    let opened = p.start_node(tree, SyntaxKind::ITEM_CMD);
+    let opened = p.start_node(tree, kind);
     let Step::Went(begun) = opened else {
         return opened;
     };
@@ -381,7 +381,7 @@ fn matched(
     let Step::Went(read) = taken else {
         return taken;
     };
-    let ended = read.finish_node(tree, SyntaxKind::ITEM_CMD, p.builder.frame());
+    let ended = read.finish_node(tree, kind, p.builder.frame());
     let Step::Went(closed) = ended else {
         return ended;
     };
@@ -436,40 +436,17 @@ fn command(
             Mark::Nothing,
         );
     }
-    matched(text, tokens, shapes, states, tree, dropped, p, shape)
-}
-
-// An environment's name and its arguments.
-fn begin(
-    text: &[u8],
-    tokens: &[u32],
-    shapes: &[u32],
-    states: &[u32],
-    tree: &mut [u32],
-    dropped: &mut [u32],
-    p: Parser,
-) -> Step
-    requires { let t = given text tokens shapes states in ⌜ Ready t p (lent tree dropped) × Next t p ⌝ }
-    ensures { λ r. ⌜ Opened text tokens shapes states tree dropped p r 1 (λ t n inner. spec.beginClause (flat n) (sourceOf t) inner) ⌝ }
-{
-    let shape = Shape::of_token(tokens, shapes, p.lexer.token).of_class(Class::ENVIRONMENT);
-    let opened = p.start_node(tree, SyntaxKind::ITEM_BEGIN);
-    let Step::Went(begun) = opened else {
-        return opened;
-    };
-    let eaten = eat(tokens, tree, begun);
-    let Step::Went(named) = eaten else {
-        return eaten;
-    };
-    let taken = match_arguments(text, tokens, shapes, states, tree, dropped, named, shape);
-    let Step::Went(read) = taken else {
-        return taken;
-    };
-    let ended = read.finish_node(tree, SyntaxKind::ITEM_BEGIN, p.builder.frame());
-    let Step::Went(closed) = ended else {
-        return ended;
-    };
-    extract_holding_trivia(tokens, tree, closed)
+    with_arguments(
+        text,
+        tokens,
+        shapes,
+        states,
+        tree,
+        dropped,
+        p,
+        SyntaxKind::ITEM_CMD,
+        shape,
+    )
 }
 
 // An environment: its \begin, its body, its \end.
@@ -490,7 +467,18 @@ fn environment(
     let Step::Went(begun) = opened else {
         return opened;
     };
-    let named = begin(text, tokens, shapes, states, tree, dropped, begun);
+    let shape = Shape::of_token(tokens, shapes, begun.lexer.token).of_class(Class::ENVIRONMENT);
+    let named = with_arguments(
+        text,
+        tokens,
+        shapes,
+        states,
+        tree,
+        dropped,
+        begun,
+        SyntaxKind::ITEM_BEGIN,
+        shape,
+    );
     let Step::Went(entered) = named else {
         return named;
     };
