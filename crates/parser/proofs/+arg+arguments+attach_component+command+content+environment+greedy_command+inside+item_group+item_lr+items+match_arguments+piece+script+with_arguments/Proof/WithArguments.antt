@@ -42,11 +42,13 @@ plan b =
     ∷ (λ n d. routine.extractHoldingTrivia (flat n) (sourceOf (T b)))
     ∷ []
 
+abbrev rule : {t : ℕ} → Start t → Rule
+rule b n d = spec.withArguments (flat n) (sourceOf (T b)) (innerAt (T b) n d) (b .args .kind) (shapeFor (b .args .shape))
+
 -- how a call ended: so many steps are done if it went
 abbrev Turned : {t : ℕ} → Start t → ℕ → ℕ → ℕ → Step → List ℕ → List ℕ → Type 0
 Turned b count gain lift r tree dropped =
-    Turn (T b) (λ n d. spec.withArguments (flat n) (sourceOf (T b)) (innerAt (T b) n d) (b .args .kind) (shapeFor (b .args .shape))) (drop count (plan b)) gain lift
-    (b .args .p .list .scope) (b .args .p) (M b) r (buffers tree dropped)
+    Turn (T b) (rule b) (drop count (plan b)) gain lift (b .args .p .list .scope) (b .args .p) (M b) r (buffers tree dropped)
 
 started : {t : ℕ} (c : Place lts.After-start-node t)
     → Turned (start-node→entry c) 1 0 1 (c .start-node .result) (c .start-node .last .1 .0) (start-node→entry c .args .dropped .now)
