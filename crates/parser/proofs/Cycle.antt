@@ -3,18 +3,19 @@ use mathlib.Core.Path.{_≡_, refl, _∙_}
 use mathlib.Core.List.{List, _∷_}
 use Prim.Native.Nat.{ℕ, zero, suc, _+_, _≤_}
 use native.Mathlib.Omega.{arith}
-use lib.ListN.{length}
+use lib.ListN.{length, drop}
 use Rattle.rules.specs.Limits.{nodes}
 use Rattle.rules.specs.Outcome.{Out, went}
 use Rattle.rules.specs.Checks.{Tables, sourceOf}
 use Rattle.routines.specs.Stands.{Buffers, Here, posOf, outOf}
 use Rattle.routines.specs.Change.{relisted, remarked, unheld}
-use Rattle.routines.specs.Contract.{MarkOk, Ready, Left, Gone, Runs, Ran, RuleOf, weight}
+use Rattle.routines.specs.Contract.{MarkOk, Ready, Left, Gone, Runs, Ran, RuleOf, weight, buffers}
 use Rattle.routines.specs.declared.state.ListState.{ListState}
 use Rattle.routines.specs.declared.state.KeptMark.{KeptMark}
 use Rattle.routines.specs.declared.state.Parser.{Parser}
 use Rattle.routines.specs.declared.state.Step.{Step}
 use Rattle.routines.specs.declared.state.Step.the-variants.{Went, Refused}
+use Rattle.routines.proofs.Turn.{Turn}
 use Rattle.routines.proofs.Walk.{Rule, line, Walk, Call, stays-home, weaker}
 
 -- ---- calls
@@ -32,6 +33,10 @@ below {lift = lift} {f} {u} {v} {r} {x} deep k = record { is = λ ready d h. one
     one-less : (d : ℕ) → nodes + suc lift ≤ u .builder .depth + d → f (length (v .tree)) d (posOf u v) ≡ outOf r x
     one-less zero h = absurd (omega arith)
     one-less (suc e) h = k .is e (omega arith)
+
+-- how a call ended: so many steps of a member's plan are done if it went
+abbrev pub TurnedBy : Tables → Rule → List Rule → Parser → Buffers → ℕ → ℕ → ℕ → Step → List ℕ → List ℕ → Type 0
+TurnedBy t rule plan p m count gain lift r tree dropped = Turn t rule (drop count plan) gain lift (p .list .scope) p m r (buffers tree dropped)
 
 -- ---- steps that call nothing
 

@@ -4,7 +4,6 @@ use borrow.Author.Needs.{needs}
 use mathlib.Core.List.{List, [], _∷_}
 use mathlib.Core.Path.{refl}
 use native.Mathlib.Omega.{arith}
-use lib.ListN.{drop}
 use Rattle.rules.specs.Checks.{Tables, sourceOf}
 use Rattle.rules.specs.Flat.{flat}
 use Rattle.rules.specs.Position.{steps}
@@ -15,10 +14,10 @@ use Rattle.routines.specs.Stands.{Buffers}
 use Rattle.routines.specs.declared.state.Step.{Step}
 use Rattle.routines.proofs.ArgumentNode.{framed}
 use Rattle.routines.proofs.HeldLaws.{droppable}
-use Rattle.routines.proofs.Turn.{Turn, calls, opening, closing, done, begins-in, still-next}
+use Rattle.routines.proofs.Turn.{calls, opening, closing, done, begins-in, still-next}
 use Rattle.routines.proofs.Walk.{Rule, line, begins, closes}
 use Rattle.parser.specs.Member.{tables, buffers, innerAt}
-use Rattle.parser.proofs.Cycle.{below}
+use Rattle.parser.proofs.Cycle.{below, TurnedBy}
 use Rattle.parser.proofs.arg.Reads as own
 use Rattle.parser.proofs.+arg+arguments+attach_component+command+content+environment+greedy_command+inside+item_group+item_lr+items+match_arguments+piece+script+with_arguments as cycle
 use cycle.Lts-arg as lts
@@ -40,11 +39,12 @@ plan b =
     ∷ (λ n d. routine.argumentEnds (flat n) (sourceOf (T b)) (record { first = b .args .p .builder .first; node = b .args .p .builder .node }))
     ∷ []
 
+abbrev rule : {t : ℕ} → Start t → Rule
+rule b n d = spec.argument (flat n) (sourceOf (T b)) (innerAt (T b) n d) (pieceFor (b .args .what))
+
 -- how a call ended: so many steps are done if it went
 abbrev Turned : {t : ℕ} → Start t → ℕ → ℕ → ℕ → Step → List ℕ → List ℕ → Type 0
-Turned b count gain lift r tree dropped =
-    Turn (T b) (λ n d. spec.argument (flat n) (sourceOf (T b)) (innerAt (T b) n d) (pieceFor (b .args .what))) (drop count (plan b)) gain lift
-    (b .args .p .list .scope) (b .args .p) (M b) r (buffers tree dropped)
+Turned b = TurnedBy (T b) (rule b) (plan b) (b .args .p) (M b)
 
 begun : {t : ℕ} (c : Place lts.After-begin-argument t)
     → Turned (begin-argument→entry c) 1 0 1 (c .begin-argument .result) (c .begin-argument .last .0) (c .begin-argument .last .1 .0)

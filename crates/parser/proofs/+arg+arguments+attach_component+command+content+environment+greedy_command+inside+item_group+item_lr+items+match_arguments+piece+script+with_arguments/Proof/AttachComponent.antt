@@ -1,7 +1,6 @@
 -- `attach_component`: an apostrophe without a last mark is a leaf; else the walk beside its rule, a turn for each call, and each need by the nearest.
 use Prim.Native.Nat.{ℕ}
 use borrow.Author.Needs.{needs}
-use lib.ListN.{drop}
 use mathlib.Core.Bool.{Bool, true, false, not, false≢true, true≢false}
 use mathlib.Core.List.{List, [], _∷_}
 use mathlib.Core.Logic.{_⊎_, inl, inr, ⊎-elim}
@@ -22,10 +21,10 @@ use Rattle.routines.specs.declared.state.Mark.the-variants.{Nothing, At as At-m
 use Rattle.routines.specs.declared.state.Parser.{Parser}
 use Rattle.routines.specs.declared.state.Step.{Step}
 use Rattle.routines.proofs.Marks.{taken-is, taken-ok}
-use Rattle.routines.proofs.Turn.{Turn, calls, opening, closing, done, finishes, around, still-next}
+use Rattle.routines.proofs.Turn.{calls, opening, closing, done, finishes, around, still-next}
 use Rattle.routines.proofs.Walk.{Rule, line, begins, ran}
 use Rattle.parser.specs.Member.{tables, buffers, innerAt}
-use Rattle.parser.proofs.Cycle.{below, runs-as, ran-runs}
+use Rattle.parser.proofs.Cycle.{below, runs-as, ran-runs, TurnedBy}
 use Rattle.parser.proofs.Entry.{somehow}
 use Rattle.parser.proofs.attach_component.Reads as own
 use Rattle.parser.proofs.+arg+arguments+attach_component+command+content+environment+greedy_command+inside+item_group+item_lr+items+match_arguments+piece+script+with_arguments as cycle
@@ -96,9 +95,7 @@ plan b =
 
 -- how a call ended: so many steps are done if it went
 abbrev Turned : {t : ℕ} → Start t → ℕ → ℕ → ℕ → Step → List ℕ → List ℕ → Type 0
-Turned b count gain lift r tree dropped =
-    Turn (T b) (attachRule (T b) (b .args .has-script)) (drop count (plan b)) gain lift
-    (b .args .p .list .scope) (b .args .p) (M b) r (buffers tree dropped)
+Turned b = TurnedBy (T b) (attachRule (T b) (b .args .has-script)) (plan b) (b .args .p) (M b)
 
 started : {t : ℕ} (c : Place lts.After-start-around t)
     → Turned (start-around→entry c) 1 0 1 (c .start-around .result) (c .start-around .last .0) (start-around→entry c .args .dropped .now)

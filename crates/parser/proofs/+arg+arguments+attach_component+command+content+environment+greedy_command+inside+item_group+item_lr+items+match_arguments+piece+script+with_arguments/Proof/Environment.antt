@@ -4,7 +4,6 @@ use borrow.Author.Needs.{needs}
 use mathlib.Core.List.{List}
 use mathlib.Core.Path.{_≡_, refl, sym, ap, _∙_}
 use native.Mathlib.Omega.{arith}
-use lib.ListN.{drop}
 use Rattle.rules.specs.Checks.{Tables, sourceOf}
 use Rattle.rules.specs.Flat.{flat}
 use Rattle.rules.specs.Items.{ofClass, classEnvironment}
@@ -15,10 +14,10 @@ use Rattle.rules.specs.Scope as scopes
 use Rattle.rules.specs.SyntaxKind.{ItemEnv}
 use Rattle.items.specs.Items.{shapeFor}
 use Rattle.routines.specs.declared.state.Step.{Step}
-use Rattle.routines.proofs.Turn.{Turn, calls, opening, closing, done, starts, finishes, still-next}
+use Rattle.routines.proofs.Turn.{calls, opening, closing, done, starts, finishes, still-next}
 use Rattle.routines.proofs.Walk.{Rule, line, begins, ran}
-use Rattle.parser.specs.Member.{given, lent, buffers, innerAt, shapeIn, Next}
-use Rattle.parser.proofs.Cycle.{below, runs, runs-as}
+use Rattle.parser.specs.Member.{given, lent, innerAt, shapeIn, Next}
+use Rattle.parser.proofs.Cycle.{below, runs, runs-as, TurnedBy}
 use Rattle.parser.proofs.Entry.{somehow}
 use Rattle.parser.proofs.Lent.{of-tree, of-dropped}
 use Rattle.parser.proofs.ListNode.{listNode}
@@ -32,6 +31,9 @@ use At.*
 abbrev T : {t : ℕ} → Start t → Tables
 T b = given (b .args .text) (b .args .tokens) (b .args .shapes) (b .args .states)
 
+abbrev rule : {t : ℕ} → Start t → Rule
+rule b n d = spec.environmentItem (flat n) (sourceOf (T b)) (innerAt (T b) n d)
+
 -- the rule, as its steps
 abbrev plan : {t : ℕ} → Start t → List Rule
 plan b =
@@ -40,10 +42,7 @@ plan b =
 
 -- how a call ended: so many steps are done if it went
 abbrev Turned : {t : ℕ} → Start t → ℕ → ℕ → ℕ → Step → List ℕ → List ℕ → Type 0
-Turned b count gain lift r tree dropped =
-    let p = b .args .p in
-    Turn (T b) (λ n d. spec.environmentItem (flat n) (sourceOf (T b)) (innerAt (T b) n d)) (drop count (plan b)) gain lift
-    (p .list .scope) p (lent (b .args .tree) (b .args .dropped)) r (buffers tree dropped)
+Turned b = TurnedBy (T b) (rule b) (plan b) (b .args .p) (lent (b .args .tree) (b .args .dropped))
 
 started : {t : ℕ} (c : Place lts.After-start-node t)
     → Turned (start-node→entry c) 1 0 1 (c .start-node .result) (c .start-node .last .1 .0) (start-node→entry c .args .dropped .now)

@@ -20,7 +20,7 @@ use Rattle.routines.specs.declared.state.Step.{Step}
 use Rattle.routines.proofs.Turn.{Turn, calls, opening, closing, done, around, starts, finishes, still-next}
 use Rattle.routines.proofs.Walk.{Rule, Walk, Stopped, line, begins, ran, stops}
 use Rattle.parser.specs.Member.{given, lent, buffers, innerAt}
-use Rattle.parser.proofs.Cycle.{below, runs}
+use Rattle.parser.proofs.Cycle.{below, runs, TurnedBy}
 use Rattle.parser.proofs.Entry.{somehow}
 use Rattle.parser.proofs.Lent.{of-tree, of-dropped}
 use Rattle.parser.proofs.greedy_command.Reads as own
@@ -60,9 +60,7 @@ rule b n d = spec.greedyCommand (flat n) (sourceOf (T b)) (innerAt (T b) n d) (o
 
 -- how a call ended: so many steps are done if it went
 abbrev Turned : {t : ℕ} → Start t → ℕ → ℕ → ℕ → Step → List ℕ → List ℕ → Type 0
-Turned b count gain lift r tree dropped =
-    let p = b .args .p in
-    Turn (T b) (rule b) (drop count (plan b)) gain lift (p .list .scope) p (lent (b .args .tree) (b .args .dropped)) r (buffers tree dropped)
+Turned b = TurnedBy (T b) (rule b) (plan b) (b .args .p) (lent (b .args .tree) (b .args .dropped))
 
 started : {t : ℕ} (c : Place lts.After-start-around t)
     → Turned (start-around→entry c) 1 0 1 (c .start-around .result) (c .start-around .last .0) (start-around→entry c .args .dropped .now)
@@ -99,9 +97,7 @@ plan-taken b =
 
 -- how a call ended there
 abbrev Taken : {t : ℕ} → Place lts.After-eaten t → ℕ → ℕ → Step → List ℕ → List ℕ → Type 0
-Taken b count lift r tree dropped =
-    let p = b .eaten .given .0 .0 in
-    Turn (T (eaten→entry b)) (takes (eaten→entry b)) (drop count (plan-taken b)) 0 lift (p .list .scope) p (M b) r (buffers tree dropped)
+Taken b count = TurnedBy (T (eaten→entry b)) (takes (eaten→entry b)) (plan-taken b) (b .eaten .given .0 .0) (M b) count 0
 
 entered : {t : ℕ} (c : Place lts.After-start-node t)
     → Taken (start-node→eaten c) 1 1 (c .start-node .result) (c .start-node .last .1 .0) (start-node→entry c .args .dropped .now)

@@ -4,7 +4,6 @@ use borrow.Author.Needs.{needs}
 use mathlib.Core.List.{List, [], _∷_}
 use mathlib.Core.Path.{refl}
 use native.Mathlib.Omega.{arith}
-use lib.ListN.{drop}
 use Rattle.rules.specs.Checks.{Tables, sourceOf}
 use Rattle.rules.specs.Flat.{flat}
 use Rattle.rules.specs.Position as position
@@ -14,10 +13,10 @@ use Rattle.rules.specs.Routines as routine
 use Rattle.items.specs.Items.{shapeFor}
 use Rattle.routines.specs.Stands.{Buffers}
 use Rattle.routines.specs.declared.state.Step.{Step}
-use Rattle.routines.proofs.Turn.{Turn, calls, opening, closing, done, starts, finishes, still-next}
+use Rattle.routines.proofs.Turn.{calls, opening, closing, done, starts, finishes, still-next}
 use Rattle.routines.proofs.Walk.{Rule, line, begins, ran}
 use Rattle.parser.specs.Member.{tables, buffers, innerAt}
-use Rattle.parser.proofs.Cycle.{runs}
+use Rattle.parser.proofs.Cycle.{runs, TurnedBy}
 use Rattle.parser.proofs.Entry.{somehow}
 use Rattle.parser.proofs.with_arguments.Reads as own
 use Rattle.parser.proofs.+arg+arguments+attach_component+command+content+environment+greedy_command+inside+item_group+item_lr+items+match_arguments+piece+script+with_arguments as cycle
@@ -47,8 +46,7 @@ rule b n d = spec.withArguments (flat n) (sourceOf (T b)) (innerAt (T b) n d) (b
 
 -- how a call ended: so many steps are done if it went
 abbrev Turned : {t : ℕ} → Start t → ℕ → ℕ → ℕ → Step → List ℕ → List ℕ → Type 0
-Turned b count gain lift r tree dropped =
-    Turn (T b) (rule b) (drop count (plan b)) gain lift (b .args .p .list .scope) (b .args .p) (M b) r (buffers tree dropped)
+Turned b = TurnedBy (T b) (rule b) (plan b) (b .args .p) (M b)
 
 started : {t : ℕ} (c : Place lts.After-start-node t)
     → Turned (start-node→entry c) 1 0 1 (c .start-node .result) (c .start-node .last .1 .0) (start-node→entry c .args .dropped .now)
