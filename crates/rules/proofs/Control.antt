@@ -21,7 +21,7 @@ use Rattle.rules.specs.Outcome.{Out, went, bind, greedyEnvironment, mark
 use Rattle.rules.specs.Placed.{Placed, Places, leaf, node, none, more, places, leavesIn, leavesAll, Placing, firstOf, leafed, opened, openedAt, closed, noted, placing, nothing}
 use Rattle.rules.specs.Position.{Shape, Source, At, place, asked, steps, holdingNone, start, startAt, finish, wrap}
 use Rattle.rules.specs.Reading.{items, itemList, itemGroup, piece, argument, chosen, choiceFor, arguments, matchArguments, argumentsOf, withArguments, greedyItems, greedyArgument, greedyCommand, commandOf, beginClause, environmentItem, itemLr, script, attachmentAt, attachTo, attachComponent, readItem, contentFor, content, contentAt, parse}
-use Rattle.rules.specs.Routines.{eatAs, eat, eatIf, eatWhile, turns, trivia, singleChar, oneIn, holdTrivia, dropFrom, ignoreHoldingTrivia, leavesFrom, extractHoldingTrivia, text, delimiterOf, delimiter, clauseLr, dropNext, eatBodyOfIfs, skippedBody, startAround, orElse, left1Command, argumentBegins, argumentEnds, argumentNode, endClause, rightClause}
+use Rattle.rules.specs.Routines.{eatAs, eat, ifNext, eatIf, eatWhile, turns, trivia, singleChar, oneIn, holdTrivia, dropFrom, ignoreHoldingTrivia, leavesFrom, extractHoldingTrivia, text, delimiterOf, delimiter, clauseLr, dropNext, eatBodyOfIfs, skippedBody, startAround, orElse, left1Command, argumentBegins, argumentEnds, argumentNode, endClause, rightClause}
 use Rattle.rules.specs.Rowan.{markPastLast}
 use Rattle.rules.specs.Scope
 use Rattle.rules.specs.Scope.{Scope, among, stops}
@@ -157,9 +157,12 @@ module _ (source : Source) where
   unfolding eat
   eat-in g p h = eatAs-in _ g p h
 
+  ifNext-in : (kind : ℕ) {f : Rule} → Keep f → Keep (ifNext placing source kind f)
+  ifNext-in kind reads g p h = cond-goes (sees (eqb kind) p) (λ _. reads g p h) (λ _. goes h)
+
   eatIf-in : (kind : ℕ) → Keep (eatIf placing source kind)
   unfolding eatIf
-  eatIf-in kind g p h = cond-goes (sees (eqb kind) p) (λ _. eat-in g p h) (λ _. goes h)
+  eatIf-in kind g p h = ifNext-in kind eat-in g p h
 
   eatWhile-in : (test : ℕ → Bool) (n : ℕ) → Keep (eatWhile placing source test n)
   unfolding eatWhile
@@ -711,7 +714,7 @@ module _ (source : Source) where
 
     endClause-in : Keep (endClause placing source)
     unfolding endClause
-    endClause-in g p h = cond-goes (sees (eqb Token.EndEnvironment) p) (λ _. oneIn-in SyntaxKind.ItemEnd refl g p h) (λ _. goes h)
+    endClause-in g p h = ifNext-in Token.EndEnvironment (oneIn-in SyntaxKind.ItemEnd refl) g p h
 
     environmentItem-in : Keep (environmentItem placing source inner)
     unfolding environmentItem
@@ -720,7 +723,7 @@ module _ (source : Source) where
 
     rightClause-in : Keep (rightClause placing source)
     unfolding rightClause
-    rightClause-in g p h = cond-goes (sees (eqb Token.Right) p) (λ _. clauseLr-in g p h) (λ _. goes h)
+    rightClause-in g p h = ifNext-in Token.Right clauseLr-in g p h
 
     itemLr-in : Keep (itemLr placing source inner)
     unfolding itemLr

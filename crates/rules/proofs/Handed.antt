@@ -15,8 +15,8 @@ use Rattle.rules.specs.Flat.{reasonTrivia, reasonOpener, reasonCloser}
 use Rattle.rules.specs.Items.{isCommandName, isIf}
 use Rattle.rules.specs.Kinds.{isTrivia, isTextComponent, leafKind}
 use Rattle.rules.specs.Outcome.{Out, bind}
-use Rattle.rules.specs.Position.{Source, At, asked, place, withBuilt, building, start, startAt, finish, wrap}
-use Rattle.rules.specs.Routines.{next, turns, eatAs, eat, eatIf, eatWhile, trivia, singleChar, oneIn, holdTrivia, dropFrom, ignoreHoldingTrivia, leavesFrom, extractHoldingTrivia, text, delimiterOf, delimiter, clauseLr, dropNext, eatBodyOfIfs, skippedBody, startAround, left1Command, orElse, endClause, rightClause}
+use Rattle.rules.specs.Position.{Source, At, Rule, asked, place, withBuilt, building, start, startAt, finish, wrap}
+use Rattle.rules.specs.Routines.{next, turns, eatAs, eat, ifNext, eatIf, eatWhile, trivia, singleChar, oneIn, holdTrivia, dropFrom, ignoreHoldingTrivia, leavesFrom, extractHoldingTrivia, text, delimiterOf, delimiter, clauseLr, dropNext, eatBodyOfIfs, skippedBody, startAround, left1Command, orElse, endClause, rightClause}
 use Rattle.rules.specs.SyntaxKind
 use Rattle.rules.specs.Tables.{tokenCount, kindAt, lengthAt}
 use Rattle.rules.specs.Tables
@@ -186,9 +186,13 @@ module _ {B : Builder} {source : Source} (K : Handed B source) (sound : Sound so
     oneIn-if kind p h = from-goes (start-if kind p h first eat-if then finish-if kind _ then done)
 
   module _ {n : ℕ} where
+    ifNext-if : (kind : ℕ) {f : Rule B} → Takes (Next (λ c. eqb kind (kindAt (source .tokens) (c .token)) ≡ true) n) (Free n) f
+        → Takes (Free n) (Free n) (ifNext B source kind f)
+    ifNext-if kind reads p h = cond-goes (next B source (eqb kind) p) (λ e. reads p (next-on (eqb kind) p e (wider source h))) (λ _. goes h)
+
     pub eatIf-if : (kind : ℕ) → Takes (Free n) (Free n) (eatIf B source kind)
     unfolding eatIf
-    eatIf-if kind p h = cond-goes (next B source (eqb kind) p) (λ e. eat-if p (next-on (eqb kind) p e (wider source h))) (λ _. goes h)
+    eatIf-if kind p h = ifNext-if kind eat-if p h
 
     pub eatWhile-if : (test : ℕ → Bool) (turns : ℕ) → Takes (Free n) (Free n) (eatWhile B source test turns)
     unfolding eatWhile
@@ -427,14 +431,8 @@ module _ {B : Builder} {source : Source} (K : Handed B source) (sound : Sound so
 
     pub endClause-if : Takes (Free n) (Free n) (endClause B source)
     unfolding endClause
-    endClause-if p h =
-        cond-goes (next B source (eqb Token.EndEnvironment) p)
-        (λ e. oneIn-if SyntaxKind.ItemEnd p (next-on (eqb Token.EndEnvironment) p e (wider source h)))
-        (λ _. goes h)
+    endClause-if p h = ifNext-if Token.EndEnvironment (oneIn-if SyntaxKind.ItemEnd) p h
 
     pub rightClause-if : Takes (Free n) (Free n) (rightClause B source)
     unfolding rightClause
-    rightClause-if p h =
-        cond-goes (next B source (eqb Token.Right) p)
-        (λ e. clauseLr-if p (next-on (eqb Token.Right) p e (wider source h)))
-        (λ _. goes h)
+    rightClause-if p h = ifNext-if Token.Right clauseLr-if p h

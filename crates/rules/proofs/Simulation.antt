@@ -19,7 +19,7 @@ use Rattle.rules.specs.Matcher.{Matcher, startMatch, isGreedy, formLeft1
 use Rattle.rules.specs.Outcome.{Out, went, refused, bind, greedyEnvironment, tooManyOpen}
 use Rattle.rules.specs.Position.{Shape, Source, At, Rule, place, asked, withLexer, withList, withMarks, holdingNone, leaf, start, startAt, finish, wrap}
 use Rattle.rules.specs.Reading.{items, itemList, itemGroup, piece, argument, chosen, choiceFor, arguments, matchArguments, argumentsOf, withArguments, greedyItems, greedyArgument, greedyCommand, commandOf, beginClause, environmentItem, itemLr, script, attachmentAt, attachTo, attachComponent, readItem, contentFor, content, contentAt, parseAt, parse}
-use Rattle.rules.specs.Routines.{eatAs, eat, eatIf, eatWhile, turns, trivia, singleChar, oneIn, dropFrom, ignoreHoldingTrivia, leavesFrom, extractHoldingTrivia, text, delimiterOf, delimiter, clauseLr, dropNext, eatBodyOfIfs, skippedBody, startAround, left1Command, argumentBegins, argumentEnds, argumentNode, endClause, rightClause}
+use Rattle.rules.specs.Routines.{eatAs, eat, ifNext, eatIf, eatWhile, turns, trivia, singleChar, oneIn, dropFrom, ignoreHoldingTrivia, leavesFrom, extractHoldingTrivia, text, delimiterOf, delimiter, clauseLr, dropNext, eatBodyOfIfs, skippedBody, startAround, left1Command, argumentBegins, argumentEnds, argumentNode, endClause, rightClause}
 use Rattle.rules.specs.Scope
 use Rattle.rules.specs.Scope.{Scope, stops}
 use Rattle.rules.specs.SyntaxKind
@@ -149,9 +149,14 @@ module _ {A B : Builder} {Skip May : ℕ → Type 0} (Z : Sim A B Skip May) wher
       unfolding eat
       eat~ _ _ (near c h m fits r) = eatAs~ _ _ _ (near c h m fits r)
 
+      ifNext~ : (kind : ℕ) {f : Rule A} {g : Rule B} → Quiet (top ∷ w) P f g → Quiet (top ∷ w) P (ifNext A source kind f) (ifNext B source kind g)
+      ifNext~ kind reads _ _ (near c h m fits r) =
+          let here = near c h m fits r in
+          cond~ (sees (eqb kind) c) (λ _. reads _ _ here) (λ _. went~ here)
+
       eatIf~ : (kind : ℕ) → Quiet (top ∷ w) P (eatIf A source kind) (eatIf B source kind)
       unfolding eatIf
-      eatIf~ kind _ _ (near c h m fits r) = cond~ (sees (eqb kind) c) (λ _. eat~ _ _ (near c h m fits r)) (λ _. went~ (near c h m fits r))
+      eatIf~ kind p q h = ifNext~ kind eat~ p q h
 
       eatWhile~ : (test : ℕ → Bool) (turns : ℕ) → Quiet (top ∷ w) P (eatWhile A source test turns) (eatWhile B source test turns)
       unfolding eatWhile
@@ -238,15 +243,11 @@ module _ {A B : Builder} {Skip May : ℕ → Type 0} (Z : Sim A B Skip May) wher
 
       endClause~ : Quiet (top ∷ w) P (endClause A source) (endClause B source)
       unfolding endClause
-      endClause~ _ _ (near c h m fits r) =
-          let here = near c h m fits r in
-          cond~ (sees (eqb Token.EndEnvironment) c) (λ _. oneIn~ SyntaxKind.ItemEnd _ _ here) (λ _. went~ here)
+      endClause~ p q h = ifNext~ Token.EndEnvironment (oneIn~ SyntaxKind.ItemEnd) p q h
 
       rightClause~ : Quiet (top ∷ w) P (rightClause A source) (rightClause B source)
       unfolding rightClause
-      rightClause~ _ _ (near c h m fits r) =
-          let here = near c h m fits r in
-          cond~ (sees (eqb Token.Right) c) (λ _. clauseLr~ _ _ here) (λ _. went~ here)
+      rightClause~ p q h = ifNext~ Token.Right clauseLr~ p q h
 
     -- ---- a node around what stands from a mark on
 

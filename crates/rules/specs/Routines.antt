@@ -45,9 +45,13 @@ module _ (B : Builder) (source : Source) where
   unfoldable pub eat : Rule B
   eat p = eatAs (leafKind (kindAt (source .tokens) (place B p))) p
 
+  -- what is read if a token of this kind is next
+  abbrev pub ifNext : ℕ → Rule B → Rule B
+  ifNext kind read p = cond (next (eqb kind) p) (read p) (went p)
+
   -- `eat_if`: a token of this kind is eaten, if it is next
   unfoldable pub eatIf : ℕ → Rule B
-  eatIf kind p = cond (next (eqb kind) p) (eat p) (went p)
+  eatIf kind p = ifNext kind eat p
 
   -- tokens are eaten while their kind passes a test
   unfoldable pub eatWhile : (ℕ → Bool) → ℕ → Rule B
@@ -184,8 +188,8 @@ module _ (B : Builder) (source : Source) where
 
   -- the \end, if it is next
   unfoldable pub endClause : Rule B
-  endClause p = cond (next (eqb Token.EndEnvironment) p) (oneIn SyntaxKind.ItemEnd p) (went p)
+  endClause p = ifNext Token.EndEnvironment (oneIn SyntaxKind.ItemEnd) p
 
   -- the \right, if it is next
   unfoldable pub rightClause : Rule B
-  rightClause p = cond (next (eqb Token.Right) p) (clauseLr p) (went p)
+  rightClause p = ifNext Token.Right clauseLr p
