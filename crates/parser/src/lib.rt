@@ -436,17 +436,8 @@ fn command(
             Mark::Nothing,
         );
     }
-    with_arguments(
-        text,
-        tokens,
-        shapes,
-        states,
-        tree,
-        dropped,
-        p,
-        SyntaxKind::ITEM_CMD,
-        shape,
-    )
+    let kind = SyntaxKind::ITEM_CMD;
+    with_arguments(text, tokens, shapes, states, tree, dropped, p, kind, shape)
 }
 
 // An environment: its \begin, its body, its \end.
