@@ -76,8 +76,9 @@ impl GreenNodeBuilder {
     pub fn frame(self) -> Frame
         ensures { λ r. ⌜ r ≡ record { first = self .first; node = self .node } ⌝ }
     {
+        let first = self.first;
         Frame {
-            first: self.first,
+            first: first,
             node: self.node,
         }
     }
@@ -92,11 +93,14 @@ impl GreenNodeBuilder {
             return Built::Refused(Refusal::NO_ROOM, place);
         }
         put(tree, rows, Tag::LEAF, kind, start, size);
-        let mut next = self;
-        next.rows = rows + 1;
-        next.leaves = self.leaves + 1;
-        next.children = self.children + 1;
-        Built::Went(next)
+        Built::Went(GreenNodeBuilder {
+            rows: rows + 1,
+            leaves: self.leaves + 1,
+            depth: self.depth,
+            children: self.children + 1,
+            first: self.first,
+            node: self.node,
+        })
     }
 
     // A node that begins here: what comes next is its first child.
@@ -112,12 +116,14 @@ impl GreenNodeBuilder {
             return Built::Refused(Refusal::NO_ROOM, place);
         }
         put(tree, rows, Tag::START, kind, 0, 0);
-        let mut next = self;
-        next.rows = rows + 1;
-        next.depth = self.depth + 1;
-        next.first = self.children;
-        next.node = rows;
-        Built::Went(next)
+        Built::Went(GreenNodeBuilder {
+            rows: rows + 1,
+            leaves: self.leaves,
+            depth: self.depth + 1,
+            children: self.children,
+            first: self.children,
+            node: rows,
+        })
     }
 
     // The innermost open node ends here and is one finished child of its parent, whose frame is handed back.
@@ -130,13 +136,14 @@ impl GreenNodeBuilder {
             return Built::Refused(Refusal::NO_ROOM, place);
         }
         put(tree, rows, Tag::FINISH, kind, 0, 0);
-        let mut next = self;
-        next.rows = rows + 1;
-        next.depth = self.depth - 1;
-        next.children = self.first + 1;
-        next.first = parent.first;
-        next.node = parent.node;
-        Built::Went(next)
+        Built::Went(GreenNodeBuilder {
+            rows: rows + 1,
+            leaves: self.leaves,
+            depth: self.depth - 1,
+            children: self.first + 1,
+            first: parent.first,
+            node: parent.node,
+        })
     }
 
     // The row where a node that begins at a mark starts: behind the open node's own start row where the mark is at its first child.
