@@ -2,8 +2,8 @@
 use Prim.Native.Nat.{ℕ}
 use mathlib.Core.List.{List}
 use Rattle.rules.specs.Run.{Ran}
-use Rattle.sheets.specs.Stands.{answerOf}
-use Rattle.sheets.specs.declared.answer.Answer.{Answer}
+use Rattle.listings.specs.Stands.{answerOf}
+use Rattle.listings.specs.declared.answer.Answer.{Answer}
 
 -- the answer in the paper's numbers, with both lent buffers after it
 abbrev pub ranOf : Answer → List ℕ → List ℕ → Ran

@@ -6,9 +6,9 @@ ghost use Rattle.cartglaze.specs.Answers.{ranOf};
 use crate::clear::clear;
 use checks::Checked;
 use checks::check;
+use listings::Answer;
 use parser::parse;
 use routines::Step;
-use sheets::Answer;
 
 // Text, tokens, shapes and states in; the tree's rows and the dropped rows into the lent buffers.
 // Refusals 1 to 4 write nothing, 5 to 8 leave zeros; behind the rows of an accepted run all is as it was.

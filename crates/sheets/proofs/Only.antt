@@ -1,9 +1,9 @@
--- The contracts of the functions below `read` and `list` fix what they speak of: two results that meet one are equal, and so are two buffers. Each
--- is an equation with the rule for every field. Assumes nothing.
+-- The contracts of the functions below `read` fix what they speak of: two results that meet one are equal. Each is an equation with the rule for
+-- every field. Assumes nothing.
 use Prim.Native.Nat.{ℕ, _<_}
 use mathlib.Core.List.{List}
 use mathlib.Core.Path.{_≡_, sym, _∙_}
-use Rattle.sheets.specs.Contract.{Placed, Counted, Wrote}
+use Rattle.sheets.specs.Contract.{Placed, Counted}
 use Rattle.sheets.specs.declared.sections.Places.{Places}
 use Rattle.sheets.specs.declared.sections.Sections.{Sections}
 
@@ -26,7 +26,3 @@ only-sections {r = r} {s} one other =
     let shapes : r .shapes ≡ s .shapes = one .shapes ∙ sym (other .shapes) in
     let states : r .states ≡ s .states = one .states ∙ sym (other .states) in
     rw (text, tokens, shapes, states)
-
--- how many bytes there are then, and every byte of the lent ones
-pub only-written : {bytes t v w : List ℕ} {at r s : ℕ} → Wrote bytes t at v r → Wrote bytes t at w s → (r ≡ s) × (v ≡ w)
-only-written one other = (one .next ∙ sym (other .next), one .is ∙ sym (other .is))

@@ -4,9 +4,9 @@ use mathlib.Core.Bool.{Bool, true, false, not}
 use mathlib.Core.Path.{_≡_}
 use native.Mathlib.Omega.{arith}
 use borrow.Author.Needs.{needs}
-use Rattle.cases.specs.Tallied.{mostCases, oneIf, isLost, tallied, Tallies}
-use Rattle.cases.specs.declared.replay.Replayed.{Replayed}
-use Rattle.cases.specs.declared.tally.Tally.{Tally}
+use Rattle.replay.specs.Tallied.{mostCases, oneIf, isLost, tallied, Tallies}
+use Rattle.replay.specs.declared.case.Replayed.{Replayed}
+use Rattle.replay.specs.declared.tally.Tally.{Tally}
 use Rattle.cases.proofs.replay_all.Statement.{statement}
 use Rattle.cases.proofs.replay_all.Tie as tie
 

@@ -6,8 +6,8 @@ use Prim.Native.Nat.{ℕ}
 use borrow.Author.Needs.{needs}
 use Rattle.rules.specs.Run.{Ran}
 use Rattle.cartglaze.specs.Answers.{ranOf}
-use Rattle.sheets.specs.declared.answer.Answer.{Answer}
-use Rattle.sheets.specs.declared.answer.Answer.the-variants.{Accepted, Refused}
+use Rattle.listings.specs.declared.answer.Answer.{Answer}
+use Rattle.listings.specs.declared.answer.Answer.the-variants.{Accepted, Refused}
 use Rattle.ffi.specs.Exported.{ranFrom}
 use Rattle.ffi.proofs.cartglaze_run.Statement.{statement}
 use Rattle.ffi.proofs.cartglaze_run.Tie as tie

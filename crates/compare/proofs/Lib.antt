@@ -1,0 +1,3 @@
+-- What the proofs of several functions use, and what their callers do.
+pub mod Telling
+pub mod Alike
