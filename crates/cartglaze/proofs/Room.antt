@@ -24,7 +24,7 @@ use Rattle.rules.proofs.NothingLost.{sound}
 use Rattle.rules.proofs.Room as rules
 use Rattle.listings.specs.declared.answer.Answer.{Answer}
 use Rattle.listings.specs.declared.answer.Answer.the-variants.{Accepted, Refused}
-use Rattle.cartglaze.specs.Answers.{ranOf}
+use Rattle.listings.specs.Stands.{ranOf}
 use Rattle.cartglaze.proofs.NothingLost.{Met}
 use Rattle.cartglaze.proofs.Only.{same-answer}
 

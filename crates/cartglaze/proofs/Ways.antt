@@ -19,7 +19,7 @@ use Rattle.routines.specs.declared.state.Step.{Step}
 use Rattle.routines.specs.declared.state.Step.the-variants as step
 use Rattle.parser.specs.Member.{buffers}
 use Rattle.parser.specs.Root.{Readable, Written, Parsed}
-use Rattle.cartglaze.specs.Answers.{ranOf}
+use Rattle.listings.specs.Stands.{ranOf}
 use Rattle.listings.specs.declared.answer.Answer.the-variants.{Accepted, Refused}
 
 -- the first numbers of a buffer, with what stood behind them before, are the buffer

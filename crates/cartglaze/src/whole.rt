@@ -2,7 +2,7 @@
 ghost use mathlib.Core.Path.{_≡_};
 ghost use Rattle.rules.specs.Run.{run as runOf};
 ghost use Rattle.parser.specs.Member.{tables};
-ghost use Rattle.cartglaze.specs.Answers.{ranOf};
+ghost use Rattle.listings.specs.Stands.{ranOf};
 use crate::clear::clear;
 use checks::Checked;
 use checks::check;

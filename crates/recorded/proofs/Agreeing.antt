@@ -12,7 +12,7 @@ use lib.Seq.{take-at, drop-at}
 use Rattle.rules.specs.Run.{Answer, accepted, refusedAt, Ran, over}
 use Rattle.rules.specs.Sheet.{numberAt}
 use Rattle.rules.proofs.Characters.{either}
-use Rattle.cartglaze.specs.Answers.{ranOf}
+use Rattle.listings.specs.Stands.{ranOf}
 use Rattle.listings.specs.declared.answer.Answer.the-variants.{Accepted, Refused}
 use Rattle.compare.specs.Tells.{AllFrom}
 use Rattle.recorded.specs.Compared.{RowsAre}

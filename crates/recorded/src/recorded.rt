@@ -2,7 +2,7 @@
 ghost use mathlib.Core.Path.{_≡_};
 ghost use Prim.Native.Nat.{_^_, _<_};
 ghost use Rattle.listings.specs.declared.answer.Answer.the-variants as answers;
-ghost use Rattle.cartglaze.specs.Answers.{ranOf};
+ghost use Rattle.listings.specs.Stands.{ranOf};
 ghost use Rattle.recorded.specs.Recorded.{Agrees};
 ghost use Rattle.compare.specs.Tells.{Tells};
 use crate::rows::Compared;

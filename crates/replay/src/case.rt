@@ -7,7 +7,7 @@ ghost use Rattle.rules.specs.Run.{run as runOf};
 ghost use Rattle.rules.specs.Sheet.{tablesOf};
 ghost use Rattle.rules.specs.Treelist.{mostNumbers};
 ghost use Rattle.sheets.proofs.Answers.{Told};
-ghost use Rattle.cartglaze.specs.Answers.{ranOf};
+ghost use Rattle.listings.specs.Stands.{ranOf};
 ghost use Rattle.replay.specs.Replays.{Judges, Replays, droppedBefore};
 use cartglaze::run;
 use listings::Answer;

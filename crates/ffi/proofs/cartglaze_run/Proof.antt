@@ -5,7 +5,7 @@ use mathlib.Core.List.{List}
 use Prim.Native.Nat.{ℕ}
 use borrow.Author.Needs.{needs}
 use Rattle.rules.specs.Run.{Ran}
-use Rattle.cartglaze.specs.Answers.{ranOf}
+use Rattle.listings.specs.Stands.{ranOf}
 use Rattle.listings.specs.declared.answer.Answer.{Answer}
 use Rattle.listings.specs.declared.answer.Answer.the-variants.{Accepted, Refused}
 use Rattle.ffi.specs.Exported.{ranFrom}

@@ -6,7 +6,7 @@ use mathlib.Core.Path.{_≡_, refl}
 use borrow.Author.Needs.{needs}
 use lib.ListN.{length, length-replicate}
 use Rattle.rules.specs.Sheet.{mostBytes}
-use Rattle.cartglaze.specs.Answers.{ranOf}
+use Rattle.listings.specs.Stands.{ranOf}
 use Rattle.listings.specs.declared.answer.Answer.{Answer}
 use Rattle.listings.specs.declared.answer.Answer.the-variants.{Accepted, Refused}
 use Rattle.put_back.specs.Back.{counted, Returned}

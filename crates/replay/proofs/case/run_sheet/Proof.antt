@@ -11,7 +11,7 @@ use Rattle.rules.specs.Run.{Ran, run}
 use Rattle.rules.specs.Sheet.{bytesFrom, textAt, tablesOf}
 use Rattle.rules.specs.Tables.{part, tokenCount}
 use Rattle.rules.specs.Treelist.{mostNumbers}
-use Rattle.cartglaze.specs.Answers.{ranOf}
+use Rattle.listings.specs.Stands.{ranOf}
 use Rattle.sheets.proofs.Answers.{Told}
 use Rattle.listings.specs.declared.answer.Answer.{Answer}
 use Rattle.sheets.specs.declared.sections.Sections.{Sections}

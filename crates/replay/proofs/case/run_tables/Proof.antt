@@ -10,7 +10,7 @@ use Rattle.rules.specs.Limits.{droppedWidth}
 use Rattle.rules.specs.Run.{run}
 use Rattle.rules.specs.Tables.{tokenCount}
 use Rattle.rules.specs.Treelist.{mostNumbers}
-use Rattle.cartglaze.specs.Answers.{ranOf}
+use Rattle.listings.specs.Stands.{ranOf}
 use Rattle.listings.specs.declared.answer.Answer.{Answer}
 use Rattle.recorded.specs.Recorded.{before}
 use Rattle.replay.specs.Replays.{Judges, droppedBefore}
