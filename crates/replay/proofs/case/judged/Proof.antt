@@ -4,7 +4,7 @@ use mathlib.Core.Bool.{Bool, true, false}
 use mathlib.Core.List.{List}
 use mathlib.Core.Path.{_≡_, refl}
 use borrow.Author.Needs.{needs}
-use lib.ListN.{length, length-replicate}
+use lib.ListN.{length}
 use Rattle.rules.specs.Sheet.{mostBytes}
 use Rattle.listings.specs.Stands.{ranOf}
 use Rattle.listings.specs.declared.answer.Answer.{Answer}
@@ -42,4 +42,4 @@ judged-spec =
     (λ c. search needs)
     (λ c. search needs)
     (λ c κs. search needs)
-    (λ c. search (accepted, length-replicate)))
+    (λ c. search accepted))
