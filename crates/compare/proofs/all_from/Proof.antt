@@ -61,10 +61,8 @@ all-from-spec =
     Inv-loop
     μ-loop
     (λ c. begins _ _ _)
-    (λ c. search needs)
-    (λ c. search needs)
+    (λ c. search needs) (λ c. search needs)
     (λ c. search differs)
-    (λ c. search needs)
-    (λ c. search needs)
+    (λ c. search needs) (λ c. search needs)
     (λ c. search goes-on)
     (λ c. search ends))

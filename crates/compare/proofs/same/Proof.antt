@@ -35,10 +35,8 @@ same-spec =
     Inv-loop
     μ-loop
     (λ c. (search needs, none-yet))
-    (λ c. search needs)
-    (λ c. search needs)
+    (λ c. search needs) (λ c. search needs)
     (λ c. search differs)
-    (λ c. search needs)
-    (λ c. search needs)
+    (λ c. search needs) (λ c. search needs)
     (λ c. (omega arith, search goes-on))
     (λ c. search ends))

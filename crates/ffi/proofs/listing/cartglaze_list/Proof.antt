@@ -24,11 +24,7 @@ pub cartglaze-list-spec : {M : Type 1} → statement M
 cartglaze-list-spec =
     tie.close
     (tie.spec
-    (λ c κs. search needs)
-    (λ c κs. search needs)
-    (λ c. search needs)
-    (λ c. search needs)
-    (λ c. search needs)
+    (λ c κs. search needs) (λ c κs. search needs) (λ c. search needs) (λ c. search needs) (λ c. search needs)
     (λ c. search hands-out)
     (λ c. search needs)
     (λ c. search hands-out))

@@ -11,8 +11,7 @@ pub cell-spec : {M : Type 1} → statement M
 cell-spec =
     tie.close
     (tie.spec
-    (λ c. search needs)
-    (λ c. search needs)
+    (λ c. search needs) (λ c. search needs)
     (λ c. omega (arith, c .shared-slice-known .given (c .before .before .args .at)))
     (λ c. (refl, omega (arith, c .shared-slice-known .given (c .before .before .args .at))))
     (λ c. (sym (List·getD-eq-default (c .before .args .table .now) 0 (c .if1 .left)), search needs)))

@@ -48,16 +48,9 @@ dropped-after-spec =
     Inv-loop
     μ-loop
     (λ c. turns (rw sub-zero) (begins _ (omega arith) (omega arith)))
-    (λ c. search needs)
-    (λ c. search needs)
-    (λ c κs. search needs)
-    (λ c. search needs)
-    (λ c. search needs)
+    (λ c. search needs) (λ c. search needs) (λ c κs. search needs) (λ c. search needs) (λ c. search needs)
     (λ c. search elsewhere)
-    (λ c κs. search needs)
-    (λ c κs. search needs)
-    (λ c. search needs)
-    (λ c. search needs)
+    (λ c κs. search needs) (λ c κs. search needs) (λ c. search needs) (λ c. search needs)
     (λ c. search here)
     (λ c. search)
     (λ c. search all))

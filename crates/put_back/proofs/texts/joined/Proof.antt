@@ -25,9 +25,7 @@ joined-spec =
     Inv-loop
     μ-loop
     (λ c. (refl, turns (rw sub-zero) (begins _ (omega arith) (omega arith))))
-    (λ c κs. search needs)
-    (λ c. search needs)
-    (λ c. search needs)
+    (λ c κs. search needs) (λ c. search needs) (λ c. search needs)
     (λ c. (refl, search (goes, turns, tokens-next)))
     (λ c. search)
     (λ c. search (ends, turns, tokens-end)))

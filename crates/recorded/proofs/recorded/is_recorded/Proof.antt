@@ -20,9 +20,6 @@ pub is-recorded-spec : {M : Type 1} → statement M
 is-recorded-spec =
     tie.close
     (tie.spec
-    (λ c. search needs)
-    (λ c κs. search needs)
-    (λ c. search needs)
-    (λ c κs. search needs)
+    (λ c. search needs) (λ c κs. search needs) (λ c. search needs) (λ c κs. search needs)
     (λ c. search of-this)
     (λ c. search of-this))

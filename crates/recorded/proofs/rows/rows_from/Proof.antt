@@ -126,11 +126,8 @@ rows-from-spec =
     Inv-loop
     μ-loop
     (λ c. search begins)
-    (λ c κs. omega arith)
-    (λ c. search needs)
-    (λ c. search needs)
+    (λ c κs. omega arith) (λ c. search needs) (λ c. search needs)
     (λ c. search stops)
-    (λ c. search needs)
-    (λ c. search needs)
+    (λ c. search needs) (λ c. search needs)
     (λ c. search turns)
     (λ c. search ends))

@@ -24,9 +24,7 @@ numbers-spec =
     Inv-loop
     μ-loop
     (λ c. (refl, search needs, refl, search read-none))
-    (λ c. search needs)
-    (λ c. omega arith)
-    (λ c κs. omega arith)
+    (λ c. search needs) (λ c. omega arith) (λ c κs. omega arith)
     (λ c. search needs) (λ c. search needs) (λ c. search needs) (λ c. search needs) (λ c. search needs)
     (λ c. (refl, search needs, search needs, search read-more))
     (λ c. search needs)
