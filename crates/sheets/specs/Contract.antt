@@ -5,10 +5,10 @@ use mathlib.Core.List.{List, _++_}
 use mathlib.Core.Option.{Option, none, some}
 use mathlib.Core.Path.{_≡_}
 use lib.Dec.{leb}
-use lib.ListN.{length}
+use lib.ListN.{length, take, drop}
 use Rattle.rules.specs.Checks.{Tables, Refusal}
 use Rattle.rules.specs.Run.{over}
-use Rattle.rules.specs.Sheet.{numberBytes, numberAt, textAt, tokensAt, shapesAt, statesAt, endOf, unreadable}
+use Rattle.rules.specs.Sheet.{numberBytes, numberAt, textAt, tokensAt, shapesAt, statesAt, tableAt, endOf, unreadable}
 use Rattle.sheets.specs.Stands.{refusalOf}
 use Rattle.sheets.specs.declared.sections.Places.{Places}
 use Rattle.sheets.specs.declared.sections.Sections.{Sections}
@@ -40,6 +40,10 @@ pub record Room (bytes : List ℕ) (p : Places) (s : Sections) (numbers : List �
   pub placed : Placed bytes p
   pub counted : Counted bytes s
   pub fits : s .tokens + s .shapes + s .states ≤ length numbers
+
+-- so many of the numbers from one on are those of the table whose length stands at a place, and all others are as they were
+abbrev pub withTable : List ℕ → ℕ → ℕ → ℕ → List ℕ → List ℕ
+withTable bytes at from count numbers = (take from numbers ++ tableAt bytes at) ++ drop (from + count) numbers
 
 -- the numbers of all tables, one behind the other, and how many each section has
 abbrev pub numbersOf : Tables → List ℕ
