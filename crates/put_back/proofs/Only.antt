@@ -1,5 +1,5 @@
--- Two results of `texts_return` that meet its contract are equal, and so are the bytes lent to it. The functions below it write, as `put` of `listing`
--- does, and `only-written` of that crate speaks of them too. Assumes nothing.
+-- Two results of `texts_return` that meet its contract are equal, and so are the bytes lent to it. The functions below it write as `put` of
+-- `listings` does, and `only-written` of that crate speaks of them too. Assumes nothing.
 use Prim.Native.Nat.{ℕ}
 use mathlib.Core.Bool.{Bool}
 use mathlib.Core.List.{List}

@@ -1,11 +1,11 @@
 -- When a run gave what is recorded, as the code asks it: number after number, the rows, and what lies behind them. Assumes nothing.
 use Prim.Native.Nat.{ℕ, zero, suc, _+_, _*_, _-_}
-use mathlib.Core.Bool.{Bool, true, false}
-use mathlib.Core.List.{List, [], _++_}
-use mathlib.Core.Path.{_≡_, refl, sym, ap, _∙_}
+use mathlib.Core.Bool.{true, false}
+use mathlib.Core.List.{List}
+use mathlib.Core.Path.{_≡_, sym, ap, _∙_}
 use native.Mathlib.Nat.{sub-zero}
 use native.Mathlib.Omega.{arith}
-use borrow.Author.Tests.{eqb-true, eqb-false, eq-eqb, ne-eqb}
+use borrow.Author.Tests.{eqb-true, eq-eqb, ne-eqb}
 use lib.Dec.{eqb}
 use lib.ListN.{length, take, drop, replicate, take-append-drop}
 use lib.Seq.{take-at, drop-at}
@@ -16,7 +16,7 @@ use Rattle.listings.specs.Stands.{ranOf}
 use Rattle.listings.specs.declared.answer.Answer.the-variants.{Accepted, Refused}
 use Rattle.compare.specs.Tells.{AllFrom}
 use Rattle.recorded.specs.Compared.{RowsAre}
-use Rattle.recorded.specs.Recorded.{treeForm, droppedForm, rowsAt, rowsEnd, rowCount, dropCount, treeNumbers, droppedNumbers, before, recorded, Agrees}
+use Rattle.recorded.specs.Recorded.{treeForm, droppedForm, rowsAt, rowsEnd, before, Agrees}
 use Rattle.recorded.proofs.Forms.{rows-long}
 
 -- ---- a buffer that is rows and behind them one number throughout

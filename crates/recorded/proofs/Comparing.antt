@@ -1,7 +1,7 @@
--- Laws of comparisons that go by an answer which is given exactly where something holds; such a contract fixes the result. Assumes nothing.
+-- Laws of comparisons that go by an answer which is given exactly where something holds. Assumes nothing.
 use Prim.Native.Nat.{ℕ}
 use mathlib.Core.Bool.{Bool, true, false}
-use mathlib.Core.Path.{_≡_, refl, sym, _∙_}
+use mathlib.Core.Path.{_≡_, sym, _∙_}
 use native.Mathlib.Omega.{arith}
 use Rattle.compare.specs.Tells.{Tells}
 use Rattle.recorded.specs.Compared.{Compares}

@@ -4,7 +4,7 @@ use mathlib.Core.List.{List}
 use mathlib.Core.Path.{_≡_}
 use lib.ListN.{take}
 use Rattle.rules.specs.Tables.{part}
-use Rattle.recorded.specs.Recorded.{Form, rowsAt, rowsEnd}
+use Rattle.recorded.specs.Recorded.{Form, rowsAt}
 use Rattle.recorded.specs.declared.rows.Compared.{Compared}
 use Rattle.recorded.specs.declared.rows.Compared.the-variants.{Same, Differs}
 

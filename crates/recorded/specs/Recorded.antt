@@ -1,5 +1,5 @@
--- What the bytes of a recorded case say (README.md of the data folder of `cases` has the format). A byte past the case's end counts as 0: a case that is cut short says
--- something else.
+-- What the bytes of a recorded case say (README.md of the data folder of `cases` has the format). A byte past the case's end counts as 0: a case that
+-- is cut short says something else.
 use Prim.Native.Nat.{ℕ, zero, suc, _+_, _*_, _-_, _/_, _%_, _^_}
 use mathlib.Core.Bool.{Bool, true, false, cond}
 use mathlib.Core.List.{List, [], _∷_, _++_}

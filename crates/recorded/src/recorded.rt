@@ -1,5 +1,4 @@
 // An answer with its buffers, beside the one that is recorded.
-ghost use mathlib.Core.Path.{_≡_};
 ghost use Prim.Native.Nat.{_^_, _<_};
 ghost use Rattle.listings.specs.declared.answer.Answer.the-variants as answers;
 ghost use Rattle.listings.specs.Stands.{ranOf};

@@ -1,5 +1,4 @@
 // One recorded case (README.md of the data folder of `cases` has the format): the run on its tables, beside the real parser's answer.
-ghost use mathlib.Core.Path.{_≡_};
 ghost use Prim.Native.Nat.{_^_, _≤_, _<_};
 ghost use lib.ListN.{length};
 ghost use Rattle.rules.specs.Checks.{Tables};

@@ -48,7 +48,8 @@ table-in sheet v at from count {part} counted fits read =
 
 -- the next table is read behind them
 pub next : (sheet numbers : List ℕ) (at : ℕ) {place count from : ℕ} {done v w : List ℕ} → Done numbers done from v → from + count ≤ length numbers
-    → place ≡ at → count ≡ numberAt sheet at / numberBytes → w ≡ withTable sheet place from count v → Done numbers (done ++ tableAt sheet at) (from + count) w
+    → place ≡ at → count ≡ numberAt sheet at / numberBytes → w ≡ withTable sheet place from count v
+    → Done numbers (done ++ tableAt sheet at) (from + count) w
 next sheet numbers at {count = count} {from} {done} {v} so-far fits here counted is =
     let rest = drop from numbers in
     let front : take from v ≡ done = ap (λ (l : List ℕ). take from l) (so-far .is) ∙ take-at done rest from (so-far .long) in

@@ -1,5 +1,5 @@
 -- `replay_all` is safe and ends: the cases that may yet come fall, and no count passes that of the cases. Assumes nothing.
-use Prim.Native.Nat.{ℕ, _-_, _≤_, _<_}
+use Prim.Native.Nat.{_-_, _≤_, _<_}
 use mathlib.Core.Bool.{Bool, true, false, not}
 use mathlib.Core.Path.{_≡_}
 use native.Mathlib.Omega.{arith}

@@ -7,7 +7,7 @@ use borrow.Author.Needs.{needs}
 use native.Mathlib.Nat.{sub-self}
 use native.Mathlib.Numerals.{add-one}
 use native.Mathlib.Omega.{arith}
-use lib.ListN.{length, getD, drop, replicate, length-drop, length-append, length-replicate, getD-replicate, drop-of-length-le}
+use lib.ListN.{length, getD, drop, replicate, length-drop, length-replicate, getD-replicate, drop-of-length-le}
 use lib.Seq.{drop-cons, getD-drop}
 use Rattle.compare.specs.Tells.{Tells, AllFrom}
 use Rattle.compare.proofs.Telling.{holds, fails}

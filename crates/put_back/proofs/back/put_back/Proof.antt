@@ -12,7 +12,7 @@ use Rattle.rules.specs.PutBack.{withTexts, droppedRows, droppedAfter}
 use Rattle.rules.specs.Tables.{part}
 use Rattle.listings.specs.Contract.{Wrote}
 use Rattle.listings.proofs.Writing.{Left, begins, turns, goes, closes}
-use Rattle.put_back.specs.Back.{Counted, counted, backOf}
+use Rattle.put_back.specs.Back.{counted, backOf}
 use Rattle.put_back.proofs.TextsLeft.{backAt, back-leaf, back-other, back-end}
 use Rattle.put_back.proofs.back.put_back.Statement.{statement}
 use Rattle.put_back.proofs.back.put_back.Tie as tie

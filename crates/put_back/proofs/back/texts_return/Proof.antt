@@ -1,14 +1,14 @@
 -- `back::texts_return` meets its contract: where both texts are written whole, they are the same exactly where their bytes are; where they are the
 -- same and have room, no test fails. Assumes nothing.
 use Prim.Native.Nat.{ℕ, _+_, _/_, _*_, _^_, _≤_, _<_, min}
-use mathlib.Core.Bool.{Bool, true, false, cond, and-false}
+use mathlib.Core.Bool.{Bool, true, false, and-false}
 use mathlib.Core.List.{List}
-use mathlib.Core.Path.{_≡_, refl, sym, ap, _∙_}
+use mathlib.Core.Path.{_≡_, sym, ap, _∙_}
 use borrow.Author.Needs.{needs}
 use borrow.Author.Tests.{le-leb, lt-leb}
 use native.Mathlib.Omega.{arith}
 use lib.ListN.{length, take}
-use lib.Seq.{sets, length-sets}
+use lib.Seq.{length-sets}
 use Rattle.rules.specs.Limits.{droppedWidth}
 use Rattle.rules.specs.Questions.{rowCount}
 use Rattle.listings.specs.Contract.{most, Wrote}

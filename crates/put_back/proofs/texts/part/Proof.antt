@@ -1,5 +1,4 @@
 -- `texts::part` meets its contract. The loop's invariant: whatever writes the bytes from i on has written the part. Assumes nothing.
-use mathlib.Core.Path.{_≡_}
 use Prim.Native.Nat.{_-_, _≤_}
 use borrow.Author.Needs.{needs}
 use native.Mathlib.Omega.{arith}

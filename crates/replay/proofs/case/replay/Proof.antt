@@ -1,15 +1,13 @@
 -- `case::replay` meets its contract: each test asks whether the case can be replayed, and then its sheet is run. Assumes nothing.
 use Prim.Native.Nat.{ℕ, _+_, _-_, _≤_, _<_}
-use mathlib.Core.Bool.{Bool, true, false, cond, and-false}
+use mathlib.Core.Bool.{false, and-false}
 use mathlib.Core.List.{List}
-use mathlib.Core.Option.{Option, none, some}
-use mathlib.Core.Path.{_≡_, refl, sym, ap, _∙_}
+use mathlib.Core.Path.{_≡_, _∙_}
 use borrow.Author.Needs.{needs}
 use borrow.Author.Tests.{le-leb, lt-leb}
 use native.Mathlib.Omega.{arith}
 use lib.Dec.{lit≤}
 use lib.ListN.{length, take, replicate}
-use Rattle.rules.specs.Checks.{Tables}
 use Rattle.rules.specs.Run.{run}
 use Rattle.rules.specs.Sheet.{numberAt, read, tablesOf}
 use Rattle.rules.specs.Tables.{part}
@@ -18,9 +16,9 @@ use Rattle.sheets.specs.Contract.{Reads}
 use Rattle.sheets.specs.declared.sections.Sections.{Sections}
 use Rattle.sheets.specs.declared.sheet.Sheet.{Sheet}
 use Rattle.sheets.specs.declared.sheet.Sheet.the-variants.{Read, Refused, NoRoom}
-use Rattle.sheets.proofs.Answers.{Told, told, told-refused, always-room}
-use Rattle.recorded.specs.Recorded.{before, sheetOf}
-use Rattle.replay.specs.Replays.{Judges, Replays, ReplaysOn, tablesIn, treeBefore, droppedBefore, mostRoom, not-replayed}
+use Rattle.sheets.proofs.Answers.{told, told-refused, always-room}
+use Rattle.recorded.specs.Recorded.{before}
+use Rattle.replay.specs.Replays.{Judges, Replays, tablesIn, droppedBefore, mostRoom, not-replayed}
 use Rattle.replay.specs.declared.case.Replayed.{Replayed}
 use Rattle.replay.proofs.Fronts.{front, take-replicate}
 use Rattle.replay.proofs.case.replay.Statement.{statement}

@@ -1,24 +1,20 @@
 -- `case::run_sheet` meets its contract: the parts lie where the sheet's sections say, and there is a dropped row for each token. Assumes nothing.
-use Prim.Native.Nat.{ℕ, _+_, _*_, _-_, _/_, _≤_}
+use Prim.Native.Nat.{ℕ, _+_, _-_, _≤_}
 use mathlib.Core.List.{List}
 use mathlib.Core.Path.{_≡_, subst}
 use native.Mathlib.Omega.{arith}
 use borrow.Author.Needs.{needs}
 use lib.ListN.{length, take, length-take}
 use Rattle.rules.specs.Checks.{Tables}
-use Rattle.rules.specs.Limits.{tokenWidth, droppedWidth}
-use Rattle.rules.specs.Run.{Ran, run}
+use Rattle.rules.specs.Run.{run}
 use Rattle.rules.specs.Sheet.{bytesFrom, textAt, tablesOf}
-use Rattle.rules.specs.Tables.{part, tokenCount}
+use Rattle.rules.specs.Tables.{part}
 use Rattle.rules.specs.Treelist.{mostNumbers}
-use Rattle.listings.specs.Stands.{ranOf}
 use Rattle.sheets.proofs.Answers.{Told}
-use Rattle.listings.specs.declared.answer.Answer.{Answer}
 use Rattle.sheets.specs.declared.sections.Sections.{Sections}
-use Rattle.recorded.specs.Recorded.{before}
 use Rattle.replay.specs.Replays.{Judges, droppedBefore}
 use Rattle.replay.specs.declared.case.Replayed.{Replayed}
-use Rattle.replay.proofs.Fronts.{front, take-replicate}
+use Rattle.replay.proofs.Fronts.{front}
 use Rattle.replay.proofs.case.run_sheet.Statement.{statement}
 use Rattle.replay.proofs.case.run_sheet.Tie as tie
 
