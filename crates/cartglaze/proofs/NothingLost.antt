@@ -9,8 +9,8 @@ use Rattle.rules.specs.Run.{Ran, accepted, run}
 use Rattle.rules.specs.Exactly.{RanExactly}
 use Rattle.rules.proofs.Exactly.{run-exactly}
 use Rattle.rules.proofs.NothingLost as rules
-use Rattle.cartglaze.specs.Answers.{ranOf}
-use Rattle.sheets.specs.declared.answer.Answer.the-variants.{Accepted}
+use Rattle.listings.specs.Stands.{ranOf}
+use Rattle.listings.specs.declared.answer.Answer.the-variants.{Accepted}
 
 -- what the contract says of a call that was accepted with so many rows and dropped rows
 abbrev pub Met : Tables → List ℕ → List ℕ → ℕ → ℕ → List ℕ → List ℕ → Type 0

@@ -13,10 +13,9 @@ use Rattle.rules.specs.Run.{run}
 use Rattle.questions.specs.Contract.{LeafText}
 use Rattle.questions.specs.Stands.{rangeOf}
 use Rattle.questions.specs.declared.leaf.LeafRange.{LeafRange}
-use Rattle.sheets.specs.Stands.{answerOf}
-use Rattle.cartglaze.specs.Answers.{ranOf}
-use Rattle.sheets.specs.declared.answer.Answer.{Answer}
-use Rattle.sheets.specs.declared.answer.Answer.the-variants.{Accepted, Refused}
+use Rattle.listings.specs.Stands.{answerOf, ranOf}
+use Rattle.listings.specs.declared.answer.Answer.{Answer}
+use Rattle.listings.specs.declared.answer.Answer.the-variants.{Accepted, Refused}
 
 -- ---- the run
 

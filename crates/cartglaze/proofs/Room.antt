@@ -22,9 +22,9 @@ use Rattle.rules.proofs.Goes.{Goes, goes}
 use Rattle.rules.proofs.HandedRows.{HasRead, rows-read}
 use Rattle.rules.proofs.NothingLost.{sound}
 use Rattle.rules.proofs.Room as rules
-use Rattle.sheets.specs.declared.answer.Answer.{Answer}
-use Rattle.sheets.specs.declared.answer.Answer.the-variants.{Accepted, Refused}
-use Rattle.cartglaze.specs.Answers.{ranOf}
+use Rattle.listings.specs.declared.answer.Answer.{Answer}
+use Rattle.listings.specs.declared.answer.Answer.the-variants.{Accepted, Refused}
+use Rattle.listings.specs.Stands.{ranOf}
 use Rattle.cartglaze.proofs.NothingLost.{Met}
 use Rattle.cartglaze.proofs.Only.{same-answer}
 

@@ -19,8 +19,8 @@ use Rattle.routines.specs.declared.state.Step.{Step}
 use Rattle.routines.specs.declared.state.Step.the-variants as step
 use Rattle.parser.specs.Member.{buffers}
 use Rattle.parser.specs.Root.{Readable, Written, Parsed}
-use Rattle.cartglaze.specs.Answers.{ranOf}
-use Rattle.sheets.specs.declared.answer.Answer.the-variants.{Accepted, Refused}
+use Rattle.listings.specs.Stands.{ranOf}
+use Rattle.listings.specs.declared.answer.Answer.the-variants.{Accepted, Refused}
 
 -- the first numbers of a buffer, with what stood behind them before, are the buffer
 over-is : (n : ℕ) (before after : List ℕ) → n ≤ length after → drop n after ≡ drop n before → over (take n after) before ≡ after

@@ -2,6 +2,9 @@
 mod clear;
 mod whole;
 
+pub use listings::Answer;
+pub use listings::Listed;
+pub use listings::list;
 pub use questions::LeafRange;
 pub use questions::is_display;
 pub use questions::is_inline;
@@ -9,10 +12,7 @@ pub use questions::is_leaf;
 pub use questions::is_valid;
 pub use questions::leaf_range;
 pub use questions::leaf_text;
-pub use sheets::Answer;
-pub use sheets::Listed;
 pub use sheets::Sections;
 pub use sheets::Sheet;
-pub use sheets::list;
 pub use sheets::read;
 pub use whole::run;

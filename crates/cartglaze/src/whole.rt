@@ -2,13 +2,13 @@
 ghost use mathlib.Core.Path.{_≡_};
 ghost use Rattle.rules.specs.Run.{run as runOf};
 ghost use Rattle.parser.specs.Member.{tables};
-ghost use Rattle.cartglaze.specs.Answers.{ranOf};
+ghost use Rattle.listings.specs.Stands.{ranOf};
 use crate::clear::clear;
 use checks::Checked;
 use checks::check;
+use listings::Answer;
 use parser::parse;
 use routines::Step;
-use sheets::Answer;
 
 // Text, tokens, shapes and states in; the tree's rows and the dropped rows into the lent buffers.
 // Refusals 1 to 4 write nothing, 5 to 8 leave zeros; behind the rows of an accepted run all is as it was.

@@ -1,20 +1,11 @@
 // Replays the recorded list, `cases.bin` of its data folder, and prints how many cases there are and how many of them differ; then of how many
 // accepted ones the texts were put back, and of how many they are not the token texts.
 ghost use Rattle.io.specs.Counts.{Counts};
-
-mod back;
-mod bytes;
-mod compare;
-mod recorded;
-mod replay;
-mod tally;
-mod texts;
-
-use bytes::number;
 use libc::STDOUT_FILENO;
 use replay::Replayed;
+use replay::Tally;
 use replay::replay;
-use tally::Tally;
+use sheets::number;
 
 // The next case into the buffer: how many bytes it has, 0 at the end.
 fn read_case(fd: i32, case: &mut [u8]) -> usize

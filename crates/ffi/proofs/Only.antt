@@ -14,9 +14,10 @@ use Rattle.rules.specs.Checks.{Tables}
 use Rattle.rules.specs.Questions.{leafRange}
 use Rattle.rules.specs.Run.{Answer, accepted, refusedAt, run}
 use Rattle.rules.proofs.Characters.{either}
-use Rattle.sheets.specs.Contract.{Lists, numbersOf}
-use Rattle.sheets.specs.declared.listing.Listed.{Listed}
-use Rattle.sheets.specs.declared.listing.Listed.the-variants.{Bytes, NoRoom}
+use Rattle.listings.specs.Contract.{Lists}
+use Rattle.sheets.specs.Contract.{numbersOf}
+use Rattle.listings.specs.declared.listing.Listed.{Listed}
+use Rattle.listings.specs.declared.listing.Listed.the-variants.{Bytes, NoRoom}
 use Rattle.ffi.specs.Exported.{answerFrom, ranFrom, Hands, listedFrom, notRead}
 use Rattle.ffi.specs.declared.sheet.Counts.{Counts}
 

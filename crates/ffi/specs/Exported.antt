@@ -8,8 +8,8 @@ use lib.ListN.{length}
 use Rattle.rules.specs.Checks.{Tables}
 use Rattle.rules.specs.Run.{Answer, accepted, refusedAt, Ran}
 use Rattle.sheets.specs.Contract.{answerFor, numbersAfter}
-use Rattle.sheets.specs.declared.listing.Listed.{Listed}
-use Rattle.sheets.specs.declared.listing.Listed.the-variants as listed
+use Rattle.listings.specs.declared.listing.Listed.{Listed}
+use Rattle.listings.specs.declared.listing.Listed.the-variants as listed
 use Rattle.sheets.specs.declared.sheet.Sheet.{Sheet}
 use Rattle.sheets.specs.declared.sheet.Sheet.the-variants as sheet
 use Rattle.ffi.specs.declared.sheet.Counts.{Counts}

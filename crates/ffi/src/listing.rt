@@ -2,8 +2,8 @@
 ghost use mathlib.Core.Path.{_≡_};
 ghost use Prim.Native.Nat.{min};
 ghost use Rattle.rules.specs.Listing.{listing};
-ghost use Rattle.sheets.specs.Contract.{Lists};
-ghost use Rattle.sheets.specs.Stands.{answerOf};
+ghost use Rattle.listings.specs.Contract.{Lists};
+ghost use Rattle.listings.specs.Stands.{answerOf};
 ghost use Rattle.ffi.specs.Exported.{largestNumber, answerIn, listedFrom};
 use cartglaze::Answer;
 use cartglaze::Listed;

@@ -1,5 +1,5 @@
--- What the answers of `read` and `list` tell their caller: each is the only one that meets its contract, and the tables of a sheet that is read stand
--- in the sheet and in the numbers where its sections say. Three lists one behind the other are found again by their lengths. Assumes nothing.
+-- What the answer of `read` tells its caller: it is the only one that meets its contract, and the tables of a sheet that is read stand in the sheet
+-- and in the numbers where its sections say. Three lists one behind the other are found again by their lengths. Assumes nothing.
 use Prim.Native.Nat.{ℕ, _+_, _≤_, _<_}
 use mathlib.Core.Bool.{true, false}
 use mathlib.Core.List.{List, _++_, append-assoc}
@@ -17,8 +17,7 @@ use Rattle.rules.specs.Tables.{part}
 use Rattle.rules.specs.Treelist.{mostNumbers}
 use Rattle.rules.proofs.Characters.{either}
 use Rattle.rules.proofs.Sheet.{whole, text-inside, text-long, numbers-few}
-use Rattle.sheets.specs.Contract.{Reads, numbersOf, sectionsOf, Lists}
-use Rattle.sheets.specs.declared.listing.Listed.{Listed}
+use Rattle.sheets.specs.Contract.{Reads, numbersOf, sectionsOf}
 use Rattle.sheets.specs.declared.sections.Sections.{Sections}
 use Rattle.sheets.specs.declared.sheet.Sheet.{Sheet}
 use Rattle.sheets.specs.declared.sheet.Sheet.the-variants.{Read, Refused, NoRoom}
@@ -27,9 +26,6 @@ use Rattle.sheets.specs.declared.sheet.Sheet.the-variants.{Read, Refused
 pub only-read : {tables : Option Tables} {numbers v w : List ℕ} {r s : Sheet} → Reads tables numbers r v → Reads tables numbers s w
     → (r ≡ s) × (v ≡ w)
 only-read a b = (a .answer ∙ sym (b .answer), a .written ∙ sym (b .written))
-
-pub only-list : {lines out v w : List ℕ} {r s : Listed} → Lists lines out r v → Lists lines out s w → (r ≡ s) × (v ≡ w)
-only-list a b = (a .answer ∙ sym (b .answer), a .written ∙ sym (b .written))
 
 -- ---- a sheet that is read
 pub record Told (sheet : List ℕ) (t : Tables) (s : Sections) (numbers : List ℕ) : Type 0 where

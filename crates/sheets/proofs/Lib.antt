@@ -3,5 +3,3 @@ pub mod Answers
 pub mod Numbers
 pub mod Only
 pub mod Reading
-pub mod Twice
-pub mod Writing

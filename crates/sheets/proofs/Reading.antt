@@ -4,14 +4,16 @@ use Prim.Native.Nat.{ℕ, _+_, _-_, _/_, _≤_, _<_}
 use mathlib.Core.Bool.{true, false}
 use mathlib.Core.List.{List, [], _++_, append-assoc}
 use mathlib.Core.Path.{_≡_, refl, sym, ap, _∙_}
+use native.Mathlib.Nat.{zero-add}
 use native.Mathlib.Omega.{arith}
 use borrow.Author.Tests.{le-leb, lt-leb}
 use borrow.Rule.Slice.PartMut.{midOf, putMid, mid-len}
-use lib.ListN.{length, drop, length-append, length-drop}
+use lib.ListN.{length, take, drop, length-append, take-append-drop}
+use lib.Seq.{length-take-le, take-at, drop-at, drop-drop}
 use Rattle.rules.specs.Run.{over}
 use Rattle.rules.specs.Sheet.{numberBytes, numberAt, numbersAt, tokensAt, shapesAt, statesAt, tableAt, tablesOf, readable, read}
 use Rattle.rules.proofs.Sheet.{table-long, whole, text-long}
-use Rattle.sheets.specs.Contract.{Counted, Room, Reads, numbersOf, sectionsOf}
+use Rattle.sheets.specs.Contract.{Counted, Room, withTable, Reads, numbersOf, sectionsOf}
 use Rattle.sheets.specs.declared.sections.Places.{Places}
 use Rattle.sheets.specs.declared.sections.Sections.{Sections}
 use Rattle.sheets.specs.declared.sheet.Sheet.the-variants.{Read, Refused, NoRoom}
@@ -30,16 +32,32 @@ pub record Done (numbers done : List ℕ) (count : ℕ) (v : List ℕ) : Type 0 
   pub long : length done ≡ count
   pub fits : count ≤ length numbers
 
--- the next table is read behind them
-pub next : (sheet numbers : List ℕ) (at : ℕ) {place count from : ℕ} {done v part : List ℕ} → Done numbers done from v → from + count ≤ length numbers
-    → place ≡ at → count ≡ numberAt sheet at / numberBytes → part ≡ numbersAt sheet (place + numberBytes) (length (lent from count v))
-    → Done numbers (done ++ tableAt sheet at) (from + count) (back from count v part)
-next sheet numbers at {place} {count} {from} {done} {v} {part} so-far fits here counted read =
-    let v-long : length v ≡ length numbers = ap length (so-far .is) ∙ simp (length-append, length-drop) (omega (arith, so-far .long, so-far .fits)) in
+-- so many numbers has the table at a place
+pub counted-at : (sheet : List ℕ) (at : ℕ) {place count : ℕ} → place ≡ at → count ≡ numberAt sheet at / numberBytes
+    → count ≡ numberAt sheet place / numberBytes
+counted-at sheet at here counted = rw here counted
+
+-- a table is read into the lent numbers
+pub table-in : (sheet v : List ℕ) (at from count : ℕ) {part : List ℕ} → count ≡ numberAt sheet at / numberBytes → from + count ≤ length v
+    → part ≡ numbersAt sheet (at + numberBytes) (length (lent from count v)) → back from count v part ≡ withTable sheet at from count v
+table-in sheet v at from count {part} counted fits read =
     let size : from + count - from ≡ count = omega arith in
-    let table : part ≡ tableAt sheet at = read ∙ rw (mid-len from (from + count) v (omega arith), here, size, counted) in
+    let table : part ≡ tableAt sheet at = read ∙ rw (mid-len from (from + count) v (omega arith), size, counted) in
+    let first = length-take-le from v (omega arith) in
+    rw (← table) (part-more (take from v) v part from (from + count) first (omega arith) (sym (take-append-drop from v)))
+
+-- the next table is read behind them
+pub next : (sheet numbers : List ℕ) (at : ℕ) {place count from : ℕ} {done v w : List ℕ} → Done numbers done from v → from + count ≤ length numbers
+    → place ≡ at → count ≡ numberAt sheet at / numberBytes → w ≡ withTable sheet place from count v
+    → Done numbers (done ++ tableAt sheet at) (from + count) w
+next sheet numbers at {count = count} {from} {done} {v} so-far fits here counted is =
+    let rest = drop from numbers in
+    let front : take from v ≡ done = ap (λ (l : List ℕ). take from l) (so-far .is) ∙ take-at done rest from (so-far .long) in
+    let behind : drop from v ≡ rest = ap (λ (l : List ℕ). drop from l) (so-far .is) ∙ drop-at done rest from (so-far .long) in
+    let last : drop (from + count) v ≡ drop (from + count) numbers =
+    sym (drop-drop count from v) ∙ ap (λ (l : List ℕ). drop count l) behind ∙ drop-drop count from numbers in
     record {
-      is = rw (← table) (part-more done numbers part from (from + count) (so-far .long) (omega arith) (so-far .is));
+      is = is ∙ rw (here, front, last);
       long = simp length-append (omega (arith, so-far .long, table-long sheet at));
       fits = fits;
     }
@@ -83,22 +101,18 @@ module _ (sheet numbers : List ℕ) where
           record { answer = rw (ok, le-leb _ _ room, counted); refusal = rw ok; written = rw (ok, le-leb _ _ room) written }
 
 -- the three tables one behind the other
-pub filled : (sheet numbers : List ℕ) {p : Places} {s : Sections} {tokens shapes states : List ℕ} → Room sheet p s numbers
-    → let shapes-from = 0 + s .tokens in
-    let states-from = shapes-from + s .shapes in
-    let with-tokens = back 0 (s .tokens) numbers tokens in
-    let with-shapes = back shapes-from (s .shapes) with-tokens shapes in
-    tokens ≡ numbersAt sheet (p .tokens + numberBytes) (length (lent 0 (s .tokens) numbers))
-    → shapes ≡ numbersAt sheet (p .shapes + numberBytes) (length (lent shapes-from (s .shapes) with-tokens))
-    → states ≡ numbersAt sheet (p .states + numberBytes) (length (lent states-from (s .states) with-shapes))
-    → back states-from (s .states) with-shapes states ≡ over (numbersOf (tablesOf sheet)) numbers
-filled sheet numbers {s = s} room tokens-read shapes-read states-read =
+pub filled : (sheet numbers : List ℕ) {p : Places} {s : Sections} {one two three : List ℕ} → Room sheet p s numbers
+    → one ≡ withTable sheet (p .tokens) 0 (s .tokens) numbers
+    → two ≡ withTable sheet (p .shapes) (s .tokens) (s .shapes) one
+    → three ≡ withTable sheet (p .states) (s .tokens + s .shapes) (s .states) two
+    → three ≡ over (numbersOf (tablesOf sheet)) numbers
+filled sheet numbers {s = s} room tokens-in shapes-in states-in =
     let placed = room .placed in
     let counts = room .counted in
     let fits = room .fits in
     let none : Done numbers [] 0 numbers = record { is = refl; long = refl; fits = omega arith } in
-    let one = next sheet numbers (tokensAt sheet) none (omega arith) (placed .tokens) (counts .tokens) tokens-read in
-    let two = next sheet numbers (shapesAt sheet) one (omega arith) (placed .shapes) (counts .shapes) shapes-read in
-    let three = next sheet numbers (statesAt sheet) two (omega arith) (placed .states) (counts .states) states-read in
-    let all : length (numbersOf (tablesOf sheet)) ≡ 0 + s .tokens + s .shapes + s .states = omega (arith, total sheet numbers counts) in
-    three .is ∙ rw (all, append-assoc (tableAt sheet (tokensAt sheet)) (tableAt sheet (shapesAt sheet)) (tableAt sheet (statesAt sheet)))
+    let tokens-done = rw zero-add at (next sheet numbers (tokensAt sheet) none (omega arith) (placed .tokens) (counts .tokens) tokens-in) in
+    let shapes-done = next sheet numbers (shapesAt sheet) tokens-done (omega arith) (placed .shapes) (counts .shapes) shapes-in in
+    let states-done = next sheet numbers (statesAt sheet) shapes-done (omega arith) (placed .states) (counts .states) states-in in
+    let all : length (numbersOf (tablesOf sheet)) ≡ s .tokens + s .shapes + s .states = total sheet numbers counts in
+    states-done .is ∙ rw (all, append-assoc (tableAt sheet (tokensAt sheet)) (tableAt sheet (shapesAt sheet)) (tableAt sheet (statesAt sheet)))

@@ -1,27 +1,19 @@
--- What the contracts say of lent buffers.
-use Prim.Native.Nat.{ℕ, _+_, _-_, _/_, _^_, _≤_, _<_, min}
-use mathlib.Core.Bool.{true, false, cond}
+-- What the contracts say of the lent numbers that a sheet is read into.
+use Prim.Native.Nat.{ℕ, _+_, _/_, _^_, _≤_, _<_}
+use mathlib.Core.Bool.{cond}
 use mathlib.Core.List.{List, _++_}
 use mathlib.Core.Option.{Option, none, some}
 use mathlib.Core.Path.{_≡_}
 use lib.Dec.{leb}
-use lib.ListN.{length}
-use lib.Seq.{sets}
+use lib.ListN.{length, take, drop}
 use Rattle.rules.specs.Checks.{Tables, Refusal}
-use Rattle.rules.specs.Limits
-use Rattle.rules.specs.Listing.{treeLines, droppedLines}
-use Rattle.rules.specs.Questions.{rowCount}
 use Rattle.rules.specs.Run.{over}
-use Rattle.rules.specs.Sheet.{numberBytes, numberAt, textAt, tokensAt, shapesAt, statesAt, endOf, unreadable}
-use Rattle.sheets.specs.Stands.{refusalOf, Written, writtenOf}
-use Rattle.sheets.specs.declared.listing.Listed.{Listed}
-use Rattle.sheets.specs.declared.listing.Listed.the-variants as listed
+use Rattle.rules.specs.Sheet.{numberBytes, numberAt, textAt, tokensAt, shapesAt, statesAt, tableAt, endOf, unreadable}
+use Rattle.sheets.specs.Stands.{refusalOf}
 use Rattle.sheets.specs.declared.sections.Places.{Places}
 use Rattle.sheets.specs.declared.sections.Sections.{Sections}
 use Rattle.sheets.specs.declared.sheet.Sheet.{Sheet}
 use Rattle.sheets.specs.declared.sheet.Sheet.the-variants as sheet
-
--- ---- reading
 
 -- the places of a sheet's lengths; no sum of them passes 40 bits
 pub record Placed (bytes : List ℕ) (p : Places) : Type 0 where
@@ -49,6 +41,10 @@ pub record Room (bytes : List ℕ) (p : Places) (s : Sections) (numbers : List �
   pub counted : Counted bytes s
   pub fits : s .tokens + s .shapes + s .states ≤ length numbers
 
+-- so many of the numbers from one on are those of the table whose length stands at a place, and all others are as they were
+abbrev pub withTable : List ℕ → ℕ → ℕ → ℕ → List ℕ → List ℕ
+withTable bytes at from count numbers = (take from numbers ++ tableAt bytes at) ++ drop (from + count) numbers
+
 -- the numbers of all tables, one behind the other, and how many each section has
 abbrev pub numbersOf : Tables → List ℕ
 numbersOf t = t .tokens ++ (t .shapes ++ t .states)
@@ -74,37 +70,3 @@ pub record Reads (tables : Option Tables) (numbers : List ℕ) (r : Sheet) (afte
   pub answer : r ≡ answerFor tables (length numbers)
   pub refusal : refusalOf r ≡ refusedFor tables
   pub written : after ≡ numbersAfter tables numbers
-
--- ---- writing
-
--- the largest count
-abbrev pub most : ℕ
-most = 2 ^ 64 - 1
-
--- bytes are written one by one from `at` on, those that have no room are left out; all are counted, up to the largest count
-pub record Wrote (bytes : List ℕ) (t : List ℕ) (at : ℕ) (v : List ℕ) (r : ℕ) : Type 0 where
-  pub is : v ≡ sets t at bytes
-  pub next : r ≡ min (at + length bytes) most
-
--- the lines of the first rows of each table, of as many as there are
-abbrev pub rowLines : List ℕ → ℕ → List ℕ → ℕ → List ℕ
-rowLines tree rows dropped count =
-    treeLines tree (min rows (rowCount tree)) 0 0 ++ droppedLines dropped (min count (length dropped / Limits.droppedWidth)) 0
-
--- the answer for a listing when so many bytes are lent, what it says, and what the bytes are afterwards
-abbrev pub listedIn : List ℕ → ℕ → Listed
-listedIn lines room = cond (leb (length lines) room) (listed.Bytes (length lines)) (listed.NoRoom (min (length lines) most))
-
-abbrev pub writtenIn : List ℕ → ℕ → Written
-writtenIn lines room =
-    cond (leb (length lines) room)
-    (record { whole = true; bytes = length lines })
-    (record { whole = false; bytes = min (length lines) most })
-
-abbrev pub bytesAfter : List ℕ → List ℕ → List ℕ
-bytesAfter lines bytes = cond (leb (length lines) (length bytes)) (over lines bytes) bytes
-
-pub record Lists (lines : List ℕ) (bytes : List ℕ) (r : Listed) (after : List ℕ) : Type 0 where
-  pub answer : r ≡ listedIn lines (length bytes)
-  pub says : writtenOf r ≡ writtenIn lines (length bytes)
-  pub written : after ≡ bytesAfter lines bytes

@@ -1,3 +1,3 @@
--- How the answers of the sheets stand for the rules', and what their contracts say.
+-- How the answer of reading stands for the rules', and what the contracts say.
 pub mod Stands
 pub mod Contract

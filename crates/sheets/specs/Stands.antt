@@ -1,34 +1,12 @@
--- The answers in the paper's numbers and values, case by case.
-use Prim.Native.Nat.{ℕ}
-use mathlib.Core.Bool.{Bool, true, false}
+-- The answer of reading in the paper's numbers, case by case.
 use mathlib.Core.Option.{Option, none, some}
-use Rattle.rules.specs.Run.{accepted, refusedAt}
-use Rattle.rules.specs.Run as run
 use Rattle.rules.specs.Checks.{Refusal}
 use Rattle.rules.specs.Sheet.{unreadable}
 use Rattle.sheets.specs.declared.sheet.Sheet.{Sheet}
 use Rattle.sheets.specs.declared.sheet.Sheet.the-variants as sheet
-use Rattle.sheets.specs.declared.listing.Listed.{Listed}
-use Rattle.sheets.specs.declared.listing.Listed.the-variants as listed
-use Rattle.sheets.specs.declared.answer.Answer.{Answer}
-use Rattle.sheets.specs.declared.answer.Answer.the-variants.{Accepted, Refused}
-
--- "Success gives both row counts"; a refusal its number and its place
-abbrev pub answerOf : Answer → run.Answer
-answerOf (Accepted rows count) = accepted rows count
-answerOf (Refused number place) = refusedAt number place
 
 -- "A sheet that is longer, of another version, cut short, followed by more, or with a table not of whole numbers prints `refused 9 0`"
 abbrev pub refusalOf : Sheet → Option Refusal
 refusalOf sheet.Refused = some (unreadable, 0)
 refusalOf (sheet.Read sections) = none
 refusalOf (sheet.NoRoom numbers) = none
-
--- whether the lines were written, all of them, and how many bytes they have. A listing without room is no refusal: 01 has no number for it
-pub record Written : Type 0 where
-  pub whole : Bool
-  pub bytes : ℕ
-
-abbrev pub writtenOf : Listed → Written
-writtenOf (listed.Bytes count) = record { whole = true; bytes = count }
-writtenOf (listed.NoRoom count) = record { whole = false; bytes = count }

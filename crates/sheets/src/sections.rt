@@ -5,9 +5,9 @@ ghost use mathlib.Core.List.{[], _∷_};
 ghost use Rattle.rules.specs.Sheet.{mostBytes, version, textAt, bytesFrom, endOf, wholeNumbers, readable};
 ghost use Rattle.rules.specs.Treelist.{mostNumbers};
 ghost use Rattle.sheets.specs.Contract.{Placed, Counted};
-use crate::number::Bytes;
-use crate::number::byte;
-use crate::number::number;
+use crate::big_endian::Bytes;
+use crate::big_endian::byte;
+use crate::big_endian::number;
 
 // How many bytes the text has, and how many numbers each table.
 pub struct Sections {

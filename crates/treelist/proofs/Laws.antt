@@ -19,11 +19,12 @@ use Rattle.rules.specs.Sheet.{bytesFrom, textAt, unreadable, tablesOf, read}
 use Rattle.rules.specs.Tables.{part}
 use Rattle.rules.specs.Treelist.{treeRows, droppedRows, printedRan, printedOf}
 use Rattle.rules.proofs.Listing.{InWords, listing-few}
-use Rattle.sheets.specs.Contract.{Lists, Reads}
-use Rattle.sheets.specs.Stands.{Written, answerOf, writtenOf}
-use Rattle.sheets.specs.declared.answer.Answer.{Answer}
-use Rattle.sheets.specs.declared.listing.Listed.{Listed}
-use Rattle.sheets.specs.declared.listing.Listed.the-variants.{Bytes, NoRoom}
+use Rattle.listings.specs.Contract.{Lists}
+use Rattle.sheets.specs.Contract.{Reads}
+use Rattle.listings.specs.Stands.{Written, answerOf, writtenOf}
+use Rattle.listings.specs.declared.answer.Answer.{Answer}
+use Rattle.listings.specs.declared.listing.Listed.{Listed}
+use Rattle.listings.specs.declared.listing.Listed.the-variants.{Bytes, NoRoom}
 use Rattle.sheets.specs.declared.sections.Sections.{Sections}
 use Rattle.sheets.specs.declared.sheet.Sheet.{Sheet}
 use Rattle.sheets.specs.declared.sheet.Sheet.the-variants.{Read, Refused}

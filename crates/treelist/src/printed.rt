@@ -8,14 +8,14 @@ ghost use Rattle.rules.specs.Treelist.{mostNumbers, printedOf};
 ghost use Rattle.rules.specs.Listing.{listing};
 ghost use Rattle.treelist.specs.Contract.{Small, Prints};
 ghost use Rattle.rules.proofs.Listing.{InWords};
-ghost use Rattle.sheets.specs.Stands.{answerOf};
+ghost use Rattle.listings.specs.Stands.{answerOf};
 ghost use Rattle.sheets.proofs.Answers.{Told};
 use cartglaze::run;
-use sheets::Answer;
-use sheets::Listed;
+use listings::Answer;
+use listings::Listed;
+use listings::list;
 use sheets::Sections;
 use sheets::Sheet;
-use sheets::list;
 use sheets::read;
 use syntax::Refusal;
 

@@ -1,12 +1,12 @@
 -- `replay_all` is safe and ends: the cases that may yet come fall, and no count passes that of the cases. Assumes nothing.
-use Prim.Native.Nat.{ℕ, _-_, _≤_, _<_}
+use Prim.Native.Nat.{_-_, _≤_, _<_}
 use mathlib.Core.Bool.{Bool, true, false, not}
 use mathlib.Core.Path.{_≡_}
 use native.Mathlib.Omega.{arith}
 use borrow.Author.Needs.{needs}
-use Rattle.cases.specs.Tallied.{mostCases, oneIf, isLost, tallied, Tallies}
-use Rattle.cases.specs.declared.replay.Replayed.{Replayed}
-use Rattle.cases.specs.declared.tally.Tally.{Tally}
+use Rattle.replay.specs.Tallied.{mostCases, oneIf, isLost, tallied, Tallies}
+use Rattle.replay.specs.declared.case.Replayed.{Replayed}
+use Rattle.replay.specs.declared.tally.Tally.{Tally}
 use Rattle.cases.proofs.replay_all.Statement.{statement}
 use Rattle.cases.proofs.replay_all.Tie as tie
 
@@ -40,15 +40,8 @@ replay-all-spec =
     (tie.spec
     Inv-loop
     μ-loop
-    (λ c. search needs)
-    (λ c κs. search needs)
-    (λ c. search needs)
-    (λ c. search needs)
-    (λ c κs. search needs)
+    (λ c. search needs) (λ c κs. search needs) (λ c. search needs) (λ c. search needs) (λ c κs. search needs)
     (λ c. search fewer-left)
     (λ c. search one-more)
-    (λ c. search needs)
-    (λ c κs. search needs)
-    (λ c. search needs)
-    (λ c κs. search needs)
+    (λ c. search needs) (λ c κs. search needs) (λ c. search needs) (λ c κs. search needs)
     (λ c. search needs))

@@ -5,9 +5,9 @@ use mathlib.Core.List.{List}
 use Prim.Native.Nat.{ℕ}
 use borrow.Author.Needs.{needs}
 use Rattle.rules.specs.Run.{Ran}
-use Rattle.cartglaze.specs.Answers.{ranOf}
-use Rattle.sheets.specs.declared.answer.Answer.{Answer}
-use Rattle.sheets.specs.declared.answer.Answer.the-variants.{Accepted, Refused}
+use Rattle.listings.specs.Stands.{ranOf}
+use Rattle.listings.specs.declared.answer.Answer.{Answer}
+use Rattle.listings.specs.declared.answer.Answer.the-variants.{Accepted, Refused}
 use Rattle.ffi.specs.Exported.{ranFrom}
 use Rattle.ffi.proofs.cartglaze_run.Statement.{statement}
 use Rattle.ffi.proofs.cartglaze_run.Tie as tie
@@ -23,13 +23,7 @@ pub cartglaze-run-spec : {M : Type 1} → statement M
 cartglaze-run-spec =
     tie.close
     (tie.spec
-    (λ c κs. search needs)
-    (λ c. search needs)
-    (λ c. search needs)
-    (λ c κs. search needs)
-    (λ c. search needs)
-    (λ c. search needs)
+    (λ c κs. search needs) (λ c. search needs) (λ c. search needs) (λ c κs. search needs) (λ c. search needs) (λ c. search needs)
     (λ c. search accepted)
-    (λ c. search needs)
-    (λ c. search needs)
+    (λ c. search needs) (λ c. search needs)
     (λ c. search refused))

@@ -41,10 +41,7 @@ clear-spec =
     Inv-loop
     μ-loop
     (λ c. search (needs, fill-none))
-    (λ c. search needs)
-    (λ c. search needs)
-    (λ c. search needs)
-    (λ c. search needs)
+    (λ c. search needs) (λ c. search needs) (λ c. search needs) (λ c. search needs)
     (λ c. search one-more)
     (λ c. search needs)
     (λ c. search all-of-them))

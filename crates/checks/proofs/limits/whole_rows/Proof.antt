@@ -8,7 +8,6 @@ pub whole-rows-spec : {M : Type 1} → statement M
 whole-rows-spec =
     tie.close
     (tie.spec
-    (λ c. search needs)
-    (λ c. search needs)
+    (λ c. search needs) (λ c. search needs)
     (λ c. rw (eq-eqb _ _ (c .if1 .taken)))
     (λ c. rw (ne-eqb _ _ (c .if1 .left))))

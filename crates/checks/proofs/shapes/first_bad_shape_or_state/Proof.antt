@@ -24,7 +24,6 @@ first-bad-shape-or-state-spec =
     (λ c. (refl, begins))
     (λ c κs. search needs)
     (λ c. search finds)
-    (λ c. search needs)
-    (λ c. search needs)
+    (λ c. search needs) (λ c. search needs)
     (λ c. search goes-on)
     (λ c. search ends))

@@ -8,7 +8,6 @@ pub next-right-spec : {M : Type 1} → statement M
 next-right-spec =
     tie.close
     (tie.spec
-    (λ c. search needs)
-    (λ c. search needs)
+    (λ c. search needs) (λ c. search needs)
     (λ c. omega (arith, c .shared-slice-known .given (c .before .args .at)))
     (λ c. search needs))

@@ -6,10 +6,10 @@ use Prim.Native.Nat.{ℕ}
 use borrow.Author.Needs.{needs}
 use Rattle.rules.specs.Listing.{listing}
 use Rattle.rules.specs.Run as rules
-use Rattle.sheets.specs.Contract.{Lists}
-use Rattle.sheets.specs.Stands.{answerOf}
-use Rattle.sheets.specs.declared.answer.Answer.{Answer}
-use Rattle.sheets.specs.declared.listing.Listed.{Listed}
+use Rattle.listings.specs.Contract.{Lists}
+use Rattle.listings.specs.Stands.{answerOf}
+use Rattle.listings.specs.declared.answer.Answer.{Answer}
+use Rattle.listings.specs.declared.listing.Listed.{Listed}
 use Rattle.ffi.proofs.listing.cartglaze_list.Statement.{statement}
 use Rattle.ffi.proofs.listing.cartglaze_list.Tie as tie
 
@@ -24,11 +24,7 @@ pub cartglaze-list-spec : {M : Type 1} → statement M
 cartglaze-list-spec =
     tie.close
     (tie.spec
-    (λ c κs. search needs)
-    (λ c κs. search needs)
-    (λ c. search needs)
-    (λ c. search needs)
-    (λ c. search needs)
+    (λ c κs. search needs) (λ c κs. search needs) (λ c. search needs) (λ c. search needs) (λ c. search needs)
     (λ c. search hands-out)
     (λ c. search needs)
     (λ c. search hands-out))

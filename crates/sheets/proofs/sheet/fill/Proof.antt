@@ -1,6 +1,6 @@
--- `fill` meets its contract: three parts of the buffer are lent and come back, one behind the other, each with its table. Assumes nothing.
-use borrow.Author.Needs.{needs}
-use Rattle.sheets.proofs.Reading.{filled}
+-- `fill` meets its contract: three tables are read into the buffer, each behind those that are there. Assumes nothing.
+use native.Mathlib.Omega.{arith}
+use Rattle.sheets.proofs.Reading.{counted-at, filled}
 use Rattle.sheets.proofs.sheet.fill.Statement.{statement}
 use Rattle.sheets.proofs.sheet.fill.Tie as tie
 
@@ -8,8 +8,9 @@ pub fill-spec : {M : Type 1} → statement M
 fill-spec =
     tie.close
     (tie.spec
-    (λ c. search needs) (λ c. search needs) (λ c. search needs) (λ c. search needs) (λ c. search needs) (λ c. search needs)
-    (λ c. search needs) (λ c. search needs) (λ c. search needs) (λ c. search needs) (λ c. search needs) (λ c. search needs)
-    (λ c. search needs) (λ c. search needs) (λ c. search needs) (λ c. search needs) (λ c. search needs) (λ c. search needs)
-    (λ c. search needs) (λ c. search needs) (λ c. search needs) (λ c. search needs)
+    (λ c. omega arith)
+    (λ c κs. (omega arith, search counted-at, omega arith))
+    (λ c κs. (omega arith, search counted-at, omega arith))
+    (λ c κs. (omega arith, search counted-at, omega arith))
+    (λ c. omega arith)
     (λ c. search filled))

@@ -1,2 +1,0 @@
--- How the run's answer stands for the rules'.
-pub mod Answers

@@ -1,8 +1,0 @@
--- What the proofs of several functions use, and what the contracts fix.
-pub mod Telling
-pub mod Alike
-pub mod Forms
-pub mod Agreeing
-pub mod Fronts
-pub mod TextsLeft
-pub mod Only

@@ -1,0 +1,2 @@
+-- What the answers of the comparisons stand for.
+pub mod Tells

@@ -1,0 +1,3 @@
+-- What the proofs of several functions use, and what the contracts fix.
+pub mod TextsLeft
+pub mod Only
