@@ -14,13 +14,13 @@ use Rattle.rules.specs.Routines.{eat, eatWhile}
 use Rattle.rules.specs.Tables.{tokenCount}
 use Rattle.lexer.specs.Reading.{cursorOf}
 use Rattle.lexer.proofs.Laws.{peek-none, le-or-lt}
-use Rattle.routines.specs.Stands.{Buffers, posOf}
-use Rattle.routines.specs.Contract.{Ready, Ran, RuleOf, Somehow}
-use Rattle.routines.specs.declared.state.Parser.{Parser}
-use Rattle.routines.specs.declared.state.Step.{Step}
-use Rattle.routines.specs.declared.state.Step.the-variants.{Went}
-use Rattle.routines.proofs.Loop.{Far, OneTurn, far-begins, one-turn, less-left, far-goes-on}
-use Rattle.routines.proofs.Walk.{Rule, line, turns, stops, arrives, ran, ran-by, somehow-then, Stopped}
+use Rattle.state.specs.Stands.{Buffers, posOf}
+use Rattle.state.specs.Contract.{Ready, Ran, RuleOf, Somehow}
+use Rattle.state.specs.declared.Parser.{Parser}
+use Rattle.state.specs.declared.Step.{Step}
+use Rattle.state.specs.declared.Step.the-variants.{Went}
+use Rattle.state.proofs.Loop.{Far, OneTurn, far-begins, one-turn, less-left, far-goes-on}
+use Rattle.state.proofs.Walk.{Rule, line, turns, stops, arrives, ran, ran-by, somehow-then, Stopped}
 
 -- where a test of the next token passes, one is there
 pub asked-there : (test : ℕ → Bool) (tokens : List ℕ) (c : Cursor) → asked test (peek tokens c) ≡ true → c .token < tokenCount tokens

@@ -22,14 +22,14 @@ use Rattle.lexer.proofs.Laws.{eaten-fine, left-eaten}
 use Rattle.builder.specs.Contract.{Fits}
 use Rattle.builder.specs.Stands.{rowsOf}
 use Rattle.builder.proofs.Numbers.{one-more, the-rest}
-use Rattle.routines.specs.Stands.{Buffers, Here, posOf, outOf}
-use Rattle.routines.specs.Change.{relexed, unheld}
-use Rattle.routines.specs.Contract.{Ready, Passed, Left, Leafed, Told, Ran, Somehow, Holding, Droppable, Ignored, buffers}
-use Rattle.routines.specs.declared.state.Parser.{Parser}
-use Rattle.routines.specs.declared.state.Step.{Step}
-use Rattle.routines.specs.declared.state.Step.the-variants.{Went}
-use Rattle.routines.proofs.Building.{mark-more}
-use Rattle.routines.proofs.Walk.{Call, Stopped, stop, stopped, drop-more}
+use Rattle.state.specs.Stands.{Buffers, Here, posOf, outOf}
+use Rattle.state.specs.Change.{relexed, unheld}
+use Rattle.state.specs.Contract.{Ready, Passed, Left, Leafed, Told, Ran, Somehow, Holding, Droppable, Ignored, buffers}
+use Rattle.state.specs.declared.Parser.{Parser}
+use Rattle.state.specs.declared.Step.{Step}
+use Rattle.state.specs.declared.Step.the-variants.{Went}
+use Rattle.state.proofs.Building.{mark-more}
+use Rattle.state.proofs.Walk.{Call, Stopped, stop, stopped, drop-more}
 
 -- the list, and the node that is open, are as they were
 module _ {t : Tables} {gain : ℕ} {p : Parser} {m : Buffers} {q : Parser} {v : Buffers} (ready : Ready t p m) (passed : Passed t gain p m q v) where

@@ -21,14 +21,14 @@ use Rattle.lexer.specs.Fine as row
 use Rattle.lexer.proofs.Laws.{here, eaten-fine, left-eaten, le-or-lt, consumed-all, consumed-part, char-fine, char-left}
 use mathlib.Core.Logic.{⊎-elim}
 use Rattle.lexer.specs.declared.cursor.Lexer.{Lexer}
-use Rattle.routines.specs.Stands.{Buffers, Here, posOf, outOf}
-use Rattle.routines.specs.Change.{relexed}
-use Rattle.routines.specs.Contract.{Ready, Left, Leafed, Told, Somehow}
-use Rattle.routines.specs.declared.state.Parser.{Parser}
-use Rattle.routines.specs.declared.state.Step.{Step}
-use Rattle.routines.specs.declared.state.Step.the-variants.{Went}
-use Rattle.routines.proofs.Building.{mark-more}
-use Rattle.routines.proofs.Walk.{Stopped, stop, stopped}
+use Rattle.state.specs.Stands.{Buffers, Here, posOf, outOf}
+use Rattle.state.specs.Change.{relexed}
+use Rattle.state.specs.Contract.{Ready, Left, Leafed, Told, Somehow}
+use Rattle.state.specs.declared.Parser.{Parser}
+use Rattle.state.specs.declared.Step.{Step}
+use Rattle.state.specs.declared.Step.the-variants.{Went}
+use Rattle.state.proofs.Building.{mark-more}
+use Rattle.state.proofs.Walk.{Stopped, stop, stopped}
 
 -- a leaf, and then the cursor stands elsewhere
 abbrev pub leaf-then : Leaf → (Cursor → Cursor) → ℕ → Here → Out Here

@@ -5,7 +5,7 @@ use native.Mathlib.Omega.{arith}
 use borrow.Author.Needs.{needs}
 use Rattle.rules.specs.Cursor.{eaten}
 use Rattle.lexer.specs.Reading.{cursorOf}
-use Rattle.routines.specs.Contract.{buffers}
+use Rattle.state.specs.Contract.{buffers}
 use Rattle.routines.proofs.Leaves.{here-of, small-token, onward-eaten, eat-as-is, leaf-stops, leaf-goes-on, same-lexer}
 use Rattle.routines.proofs.tokens.eat_as.Statement.{statement}
 use Rattle.routines.proofs.tokens.eat_as.Tie as tie

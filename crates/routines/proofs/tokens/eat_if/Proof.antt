@@ -6,7 +6,7 @@ use borrow.Author.Tests.{eq-eqb, ne-eqb}
 use Rattle.rules.specs.Routines.{eatIf}
 use Rattle.lexer.proofs.Laws.{peeked}
 use Rattle.routines.proofs.Asked.{asked-kind, asked-end}
-use Rattle.routines.proofs.Walk.{nothing-done, ran-as, ran-less}
+use Rattle.state.proofs.Walk.{nothing-done, ran-as, ran-less}
 use Rattle.routines.proofs.tokens.eat_if.Statement.{statement}
 use Rattle.routines.proofs.tokens.eat_if.Tie as tie
 mod At

@@ -8,12 +8,12 @@ use Rattle.rules.specs.Checks.{Tables, sourceOf}
 use Rattle.rules.specs.Flat.{flat}
 use Rattle.rules.specs.Position.{steps}
 use Rattle.rules.specs.Routines as spec
-use Rattle.routines.specs.Contract.{Ready, Tokens, buffers}
-use Rattle.routines.specs.declared.state.Parser.{Parser}
-use Rattle.routines.specs.declared.state.Step.{Step}
-use Rattle.routines.proofs.Outside.{node-around, begins-there}
-use Rattle.routines.proofs.Turn.{Turn, calls, opening, closing, done, starts, finishes}
-use Rattle.routines.proofs.Walk.{Rule, line, begins, ran, ran-by, somehow-then}
+use Rattle.state.specs.Contract.{Ready, Tokens, buffers}
+use Rattle.state.specs.declared.Parser.{Parser}
+use Rattle.state.specs.declared.Step.{Step}
+use Rattle.state.proofs.Outside.{node-around, begins-there}
+use Rattle.state.proofs.Turn.{Turn, calls, opening, closing, done, starts, finishes}
+use Rattle.state.proofs.Walk.{Rule, line, begins, ran, ran-by, somehow-then}
 use Rattle.routines.proofs.tokens.one_in.Statement.{statement}
 use Rattle.routines.proofs.tokens.one_in.Tie as tie
 mod At

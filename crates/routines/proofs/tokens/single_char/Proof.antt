@@ -11,7 +11,7 @@ use Rattle.rules.specs.SyntaxKind.{TokenWord}
 use Rattle.rules.proofs.Characters.{char-four}
 use Rattle.lexer.specs.Reading.{cursorOf}
 use Rattle.lexer.specs.declared.cursor.Lexer.{Lexer}
-use Rattle.routines.specs.Contract.{buffers}
+use Rattle.state.specs.Contract.{buffers}
 use Rattle.routines.proofs.Leaves.{here-of, seen-less, onward-char, single-char-is, leaf-stops, leaf-goes-on, same-lexer}
 use Rattle.routines.proofs.tokens.single_char.Statement.{statement}
 use Rattle.routines.proofs.tokens.single_char.Tie as tie

@@ -6,7 +6,7 @@ use Rattle.rules.specs.Kinds.{isTrivia}
 use Rattle.rules.specs.Routines.{trivia}
 use Rattle.lexer.specs.Reading.{cursorOf}
 use Rattle.routines.proofs.Eating.{Eating, asked-there, eating-begins, eating-ready, eating-long, eating-goes-on, eating-less, eating-stops, eating-ends}
-use Rattle.routines.proofs.Walk.{ran-as}
+use Rattle.state.proofs.Walk.{ran-as}
 use Rattle.routines.proofs.tokens.trivia.Statement.{statement}
 use Rattle.routines.proofs.tokens.trivia.Tie as tie
 mod At

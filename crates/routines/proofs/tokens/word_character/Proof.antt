@@ -5,10 +5,10 @@ use Prim.Native.Nat.{ℕ}
 use borrow.Author.Needs.{needs}
 use Rattle.lexer.specs.Fine.{Fine}
 use Rattle.lexer.specs.Reading.{cursorOf}
-use Rattle.routines.specs.Contract.{Somehow}
-use Rattle.routines.specs.declared.state.Parser.{Parser}
+use Rattle.state.specs.Contract.{Somehow}
+use Rattle.state.specs.declared.Parser.{Parser}
 use Rattle.routines.proofs.Leaves.{seen-less}
-use Rattle.routines.proofs.Outside.{ran-seeing}
+use Rattle.state.proofs.Outside.{ran-seeing}
 use Rattle.routines.proofs.tokens.word_character.Statement.{statement}
 use Rattle.routines.proofs.tokens.word_character.Tie as tie
 mod At
