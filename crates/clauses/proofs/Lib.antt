@@ -1,4 +1,2 @@
--- What the proofs of several functions use, here and in the crates that stand on this one.
-pub mod Dropping
-pub mod Skipping
+-- What the proofs of several functions use, here and in the cycle.
 pub mod ArgumentNode

@@ -5,11 +5,11 @@ ghost use Rattle.rules.specs.Position.{Source};
 ghost use Rattle.builder.specs.Contract.{Fits, Within};
 ghost use Rattle.builder.specs.Stands as shown;
 ghost use Rattle.state.specs.Contract.{AtWord, Begins, Droppable, Finishes, Goes, Holding, Known, Left-of, lent};
+use builder::Frame;
 use routines::ignore_holding_trivia;
+use routines::single_char;
 use state::Parser;
 use state::Step;
-use routines::single_char;
-use builder::Frame;
 use syntax::SyntaxKind;
 
 // What is held is dropped, and the node begins.

@@ -1,12 +1,9 @@
 // Items with no item inside, and parts of items that have one: texts, delimiters, the ends of environments and bodies, commands that wrap.
 mod argument;
-mod skipped;
 
 pub use argument::begin_argument;
 pub use argument::character;
 pub use argument::end_argument;
-pub use skipped::skipped_body;
-
 ghost use mathlib.Core.Path.{_≡_};
 ghost use Rattle.rules.specs.Flat.{flat};
 ghost use Rattle.rules.specs.Cursor.{peek};
@@ -17,16 +14,16 @@ ghost use Rattle.rules.specs.Routines as spec;
 ghost use Rattle.builder.specs.Contract.{Fits, Within};
 ghost use Rattle.state.specs.Stands.{keptOf, optionOf};
 ghost use Rattle.state.specs.Contract.{Grows, MarkOk, Somehow, Starts, Texts, There, Tokens};
-use state::Mark;
-use state::Parser;
-use state::Step;
+use items::is_command_name;
+use lexer::Peeked;
 use routines::eat;
 use routines::eat_as;
 use routines::one_in;
 use routines::single_char;
 use routines::trivia;
-use items::is_command_name;
-use lexer::Peeked;
+use state::Mark;
+use state::Parser;
+use state::Step;
 use syntax::SyntaxKind;
 use syntax::Token;
 

@@ -8,7 +8,7 @@ use Rattle.rules.specs.Matcher.{Matcher, isGreedy, startMatch}
 use Rattle.rules.specs.Reading as spec
 use Rattle.items.specs.Items.{shapeFor}
 use Rattle.items.specs.declared.shape.Shape.{Shape}
-use Rattle.routines.specs.Stands.{Here}
+use Rattle.state.specs.Stands.{Here}
 use Rattle.parser.specs.Member.{innerAt, Matches}
 
 -- the code asked its own matcher whether it is greedy

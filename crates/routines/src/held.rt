@@ -5,11 +5,11 @@ ghost use Rattle.rules.specs.Flat.{flat};
 ghost use Rattle.rules.specs.Routines as spec;
 ghost use Rattle.state.specs.Change.{relexed};
 ghost use Rattle.state.specs.Contract.{Droppable, Grows, Ignored, Somehow, Tokens};
-use state::Parser;
-use state::Step;
 use builder::drop_token;
 use lexer::Column;
 use lexer::cell;
+use state::Parser;
+use state::Step;
 use syntax::Reason;
 use syntax::SyntaxKind;
 

@@ -7,12 +7,12 @@ ghost use Rattle.rules.specs.Position.{asked};
 ghost use Rattle.lexer.specs.Reading.{cursorOf};
 ghost use Rattle.rules.specs.Routines as spec;
 ghost use Rattle.state.specs.Contract.{AtWord, Grows, Left-of, Somehow, Texts, There, Tokens, isWord};
-use state::Parser;
-use state::Step;
 use lexer::Column;
 use lexer::Peeked;
 use lexer::cell;
 use lexer::char_len;
+use state::Parser;
+use state::Step;
 use syntax::SyntaxKind;
 use syntax::Token;
 

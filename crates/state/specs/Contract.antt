@@ -1,23 +1,22 @@
 -- What the contracts of the parser's routines say.
 use Prim.Native.Nat.{ℕ, _+_, _*_, _-_, _/_, _^_, _≤_, _<_}
 use mathlib.Core.Path.{_≡_}
-use mathlib.Core.Bool.{Bool, not, cond, _&&_}
-use mathlib.Core.List.{List, _++_}
+use mathlib.Core.Bool.{Bool}
+use mathlib.Core.List.{List}
 use denote.Ref.{RefT}
 use denote.Triple.Both.{Both}
 use lib.Dec.{eqb}
-use lib.ListN.{length, take, drop}
+use lib.ListN.{length, drop}
 use Rattle.rules.specs.Limits.{tokens, nodes, treeWidth, droppedWidth, shapeWidth}
 use Rattle.rules.specs.Outcome.{Out, went}
-use Rattle.rules.specs.Flat.{flat, droppedRow}
+use Rattle.rules.specs.Flat.{flat}
 use Rattle.rules.specs.Routines.{ignoreHoldingTrivia}
-use Rattle.rules.specs.Items.{isIf}
 use Rattle.rules.specs.Checks.{Tables, sourceOf}
 use Rattle.rules.specs.Builder.{Leaf}
 use Rattle.rules.specs.Position as position
 use Rattle.rules.specs.Position.{Source}
 use Rattle.rules.specs.Tables.{tokenCount, kindAt, shapeAt}
-use Rattle.rules.specs.Token.{EndIf, Word as wordKind}
+use Rattle.rules.specs.Token.{Word as wordKind}
 use Rattle.rules.specs.Cursor.{left, peekText}
 use Rattle.lexer.specs.Reading.{cursorOf}
 use Rattle.lexer.specs.Fine.{Sound, Fine}
@@ -264,39 +263,3 @@ pub record Ignored (p : Parser) (before : List ℕ) (r : Parser) (after : List �
       → ignoreHoldingTrivia (flat n) s (posOf p (record { tree = tree; dropped = before })) ≡ went (posOf r (record { tree = tree; dropped = after }))
   pub rest : drop (r .dropped * droppedWidth) after ≡ drop (r .dropped * droppedWidth) before
   pub long : length after ≡ length before
-
--- ---- a token is dropped
-
--- there is room for a row behind those that are counted, and 32 bits are enough for what stands in it
-pub record RowFree (p : Parser) (notes : List ℕ) : Type 0 where
-  pub room : p .dropped * droppedWidth + droppedWidth ≤ length notes
-  pub token : p .lexer .token < 2 ^ 32
-  pub leaves : p .builder .leaves < 2 ^ 32
-
--- the next token is passed, and one row more is counted
-abbrev pub dropping : Parser → Parser
-dropping p =
-    record {
-      lexer = record { token = p .lexer .token + 1; taken = 0 };
-      held = p .held;
-      list = p .list;
-      builder = p .builder;
-      dropped = p .dropped + 1;
-    }
-
--- its row was written behind the others
-pub record Dropped (reason : ℕ) (p : Parser) (notes : List ℕ) (q : Parser) (after : List ℕ) : Type 0 where
-  pub is : q ≡ dropping p
-  pub row : after
-      ≡ take (p .dropped * droppedWidth) notes
-      ++ (droppedRow (p .lexer .token) reason (p .builder .leaves) ++ drop (p .dropped * droppedWidth + droppedWidth) notes)
-
--- ---- the body of an \if
-
--- a token of this kind is of the body: it is not the \fi of nesting 0
-abbrev pub inBody : ℕ → ℕ → Bool
-inBody nested kind = not (eqb EndIf kind && eqb nested 0)
-
--- the nesting behind it
-abbrev pub nestedBehind : ℕ → ℕ → ℕ
-nestedBehind nested kind = cond (eqb EndIf kind) (nested - 1) (cond (isIf kind) (nested + 1) nested)

@@ -14,10 +14,10 @@ use Rattle.rules.specs.Reading as spec
 use Rattle.rules.specs.Routines as routine
 use Rattle.rules.specs.SyntaxKind as kinds
 use Rattle.items.specs.Items.{shapeFor}
-use Rattle.routines.specs.Stands.{Buffers}
-use Rattle.routines.specs.declared.state.Step.{Step}
-use Rattle.routines.proofs.Turn.{Turn, calls, opening, closing, done, starts, finishes, still-next}
-use Rattle.routines.proofs.Walk.{Rule, line, begins, ran}
+use Rattle.state.specs.Stands.{Buffers}
+use Rattle.state.specs.declared.Step.{Step}
+use Rattle.state.proofs.Turn.{Turn, calls, opening, closing, done, starts, finishes, still-next}
+use Rattle.state.proofs.Walk.{Rule, line, begins, ran}
 use Rattle.parser.specs.Member.{shapeIn, tables, buffers, innerAt}
 use Rattle.parser.proofs.Cycle.{runs, runs-as}
 use Rattle.parser.proofs.Entry.{somehow}

@@ -13,13 +13,13 @@ use Rattle.state.specs.Contract.{Ready, Tokens, buffers}
 use Rattle.state.specs.Stands.{Buffers}
 use Rattle.state.specs.declared.Parser.{Parser}
 use Rattle.state.specs.declared.Step.{Step}
-use Rattle.clauses.proofs.Dropping.{row-free, drops}
+use Rattle.skipped.proofs.Dropping.{row-free, drops}
 use Rattle.state.proofs.Outside.{Came, node-around, begins-there}
-use Rattle.clauses.proofs.Skipping.{skipping}
+use Rattle.skipped.proofs.Skipping.{skipping}
 use Rattle.state.proofs.Turn.{Turn, calls, opening, closing, done, starts, finishes}
 use Rattle.state.proofs.Walk.{Rule, line, begins, passes, ran, ran-by}
-use Rattle.clauses.proofs.skipped.skipped_body.Statement.{statement}
-use Rattle.clauses.proofs.skipped.skipped_body.Tie as tie
+use Rattle.skipped.proofs.skipped_body.Statement.{statement}
+use Rattle.skipped.proofs.skipped_body.Tie as tie
 mod At
 use At.*
 

@@ -7,13 +7,13 @@ use native.Mathlib.Omega.{arith}
 use Rattle.rules.specs.Cursor.{left}
 use Rattle.lexer.specs.Reading.{cursorOf}
 use Rattle.lexer.proofs.Laws.{peeked, ended}
-use Rattle.state.specs.Contract.{nestedBehind}
+use Rattle.skipped.specs.Body.{nestedBehind}
 use Rattle.state.specs.declared.Parser.{Parser}
-use Rattle.clauses.proofs.Dropping.{row-free}
+use Rattle.skipped.proofs.Dropping.{row-free}
 use Rattle.state.proofs.Outside.{known-somehow}
-use Rattle.clauses.proofs.Skipping.{Skipping, skipping-begins, skipping-ready, skipping-long, skipping-few, skipping-there, skipping-in, skipping-goes-on, skipping-less, skipping-stops, skipping-ends, skipping-closes}
-use Rattle.clauses.proofs.skipped.eat_body_of_ifs.Statement.{statement}
-use Rattle.clauses.proofs.skipped.eat_body_of_ifs.Tie as tie
+use Rattle.skipped.proofs.Skipping.{Skipping, skipping-begins, skipping-ready, skipping-long, skipping-few, skipping-there, skipping-in, skipping-goes-on, skipping-less, skipping-stops, skipping-ends, skipping-closes}
+use Rattle.skipped.proofs.eat_body_of_ifs.Statement.{statement}
+use Rattle.skipped.proofs.eat_body_of_ifs.Tie as tie
 mod At
 use At.*
 

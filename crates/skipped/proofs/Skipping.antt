@@ -19,11 +19,12 @@ use Rattle.rules.specs.Token.{EndIf}
 use Rattle.lexer.specs.Reading.{cursorOf}
 use Rattle.lexer.proofs.Laws.{peek-some, peek-none, left-some}
 use Rattle.state.specs.Stands.{posOf}
-use Rattle.state.specs.Contract.{Ready, Ran, RuleOf, Known, Dropped, leftOf, inBody, nestedBehind}
+use Rattle.state.specs.Contract.{Ready, Ran, RuleOf, Known, leftOf}
+use Rattle.skipped.specs.Body.{Dropped, inBody, nestedBehind}
 use Rattle.state.specs.declared.Parser.{Parser}
 use Rattle.state.specs.declared.Step.{Step}
 use Rattle.state.specs.declared.Step.the-variants.{Went}
-use Rattle.clauses.proofs.Dropping.{drops}
+use Rattle.skipped.proofs.Dropping.{drops}
 use Rattle.routines.proofs.Eating.{asked-there}
 use Rattle.state.proofs.Loop.{Far, OneTurn, far-begins, one-turn, less-left, far-goes-on}
 use Rattle.state.proofs.Outside.{beside}

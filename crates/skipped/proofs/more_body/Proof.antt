@@ -6,10 +6,10 @@ use lib.Dec.{eqb}
 use Rattle.rules.specs.Token.{EndIf}
 use borrow.Author.Needs.{needs}
 use borrow.Author.Tests.{ne-eqb}
-use Rattle.state.specs.Contract.{inBody}
+use Rattle.skipped.specs.Body.{inBody}
 use Rattle.routines.proofs.Asked.{asked-kind, asked-end}
-use Rattle.clauses.proofs.skipped.more_body.Statement.{statement}
-use Rattle.clauses.proofs.skipped.more_body.Tie as tie
+use Rattle.skipped.proofs.more_body.Statement.{statement}
+use Rattle.skipped.proofs.more_body.Tie as tie
 mod At
 use At.*
 

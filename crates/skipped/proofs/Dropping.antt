@@ -13,7 +13,8 @@ use Rattle.rules.specs.Tables.{tokenCount}
 use Rattle.lexer.proofs.Laws.{eaten-fine, left-eaten}
 use Rattle.builder.proofs.Numbers.{one-more, the-rest}
 use Rattle.state.specs.Stands.{Buffers, posOf}
-use Rattle.state.specs.Contract.{Ready, Left, RowFree, Dropped, dropping}
+use Rattle.state.specs.Contract.{Ready, Left}
+use Rattle.skipped.specs.Body.{RowFree, Dropped, dropping}
 use Rattle.state.specs.declared.Parser.{Parser}
 use Rattle.state.specs.declared.Step.the-variants.{Went}
 use Rattle.state.proofs.Outside.{beside}

@@ -6,10 +6,10 @@ use borrow.Author.Needs.{needs}
 use Rattle.rules.specs.Cursor.{Cursor}
 use Rattle.lexer.specs.declared.cursor.Lexer.{Lexer}
 use Rattle.state.specs.Change.{relexed}
-use Rattle.state.specs.Contract.{dropping}
+use Rattle.skipped.specs.Body.{dropping}
 use Rattle.state.specs.declared.Parser.{Parser}
-use Rattle.clauses.proofs.skipped.drop_next.Statement.{statement}
-use Rattle.clauses.proofs.skipped.drop_next.Tie as tie
+use Rattle.skipped.proofs.drop_next.Statement.{statement}
+use Rattle.skipped.proofs.drop_next.Tie as tie
 mod At
 use At.*
 

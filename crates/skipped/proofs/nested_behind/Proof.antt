@@ -6,8 +6,8 @@ use native.Mathlib.Omega.{arith}
 use lib.Dec.{eqb}
 use borrow.Author.Needs.{needs}
 use borrow.Author.Tests.{ne-eqb}
-use Rattle.clauses.proofs.skipped.nested_behind.Statement.{statement}
-use Rattle.clauses.proofs.skipped.nested_behind.Tie as tie
+use Rattle.skipped.proofs.nested_behind.Statement.{statement}
+use Rattle.skipped.proofs.nested_behind.Tie as tie
 
 some : (nested : ℕ) → not (eqb nested 0) ≡ true → 1 ≤ nested
 some zero e = let z : _≡_ {A = ℕ} 0 1 = cc in absurd (omega arith)
