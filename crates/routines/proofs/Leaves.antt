@@ -27,8 +27,8 @@ use Rattle.state.specs.Contract.{Ready, Left, Leafed, Told, Somehow}
 use Rattle.state.specs.declared.Parser.{Parser}
 use Rattle.state.specs.declared.Step.{Step}
 use Rattle.state.specs.declared.Step.the-variants.{Went}
-use Rattle.state.proofs.Building.{mark-more}
-use Rattle.state.proofs.Walk.{Stopped, stop, stopped}
+use Rattle.state.proofs.Left.{remains}
+use Rattle.state.proofs.Walk.{Stopped, stop, stopped, passing}
 
 -- a leaf, and then the cursor stands elsewhere
 abbrev pub leaf-then : Leaf → (Cursor → Cursor) → ℕ → Here → Out Here
@@ -53,48 +53,16 @@ module _ (t : Tables) (p : Parser) (tree after notes : List ℕ) (ready : Ready 
   moved : (q : Parser) (l : Lexer) → Leafed p tree q after → length after ≡ length tree → Onward t p (cursorOf l)
       → Left t 1 p before (relexed q l) behind
   moved q l w long on =
-      let s = ready .steady in
+      let token = on .token in
+      let few = ready .steady .dropped in
       let rows = w .rows in
       let leaves = w .leaves in
       let less = on .less in
       let near = on .near in
       let held = w .held in
       let dropped = w .dropped in
-      let within = ready .within in
-      let first = w .first in
-      let node = w .node in
-      let depth = w .depth in
-      record {
-        passed = record {
-          tree = w .rest;
-          notes = refl;
-          tree-long = long;
-          notes-long = refl;
-          rows = omega arith;
-          dropped = omega arith;
-          token = on .token;
-          read = omega arith;
-          light = omega arith;
-        };
-        ready = record {
-          steady = record {
-            good = s .good;
-            fine = on .fine;
-            token = on .inside;
-            fits = w .fits;
-            start = rw (w .list) (mark-more (p .list .start) (p .builder) (q .builder) (omega arith) (s .start));
-            last = rw (w .list) (mark-more (p .list .last) (p .builder) (q .builder) (omega arith) (s .last));
-            dropped = let token = on .token in let few = s .dropped in omega arith;
-            notes = s .notes;
-            light = let bound = s .light in omega arith;
-          };
-          within = record { depth = omega arith; first = omega arith; node = omega arith };
-        };
-        depth = depth;
-        first = first;
-        node = node;
-        scope = ap (λ l. l .scope) (w .list);
-      }
+      remains ready (passing (w .rest) refl long refl (omega arith)) (on .fine) (on .inside) (omega arith) (w .fits) (w .depth) (w .first) (w .node)
+      (w .list)
 
   -- the rule: a leaf, and then the cursor stands elsewhere
   module _ (leaf : Leaf) (next : Cursor → Cursor) (rule : ℕ → Here → Out Here)
@@ -121,6 +89,11 @@ pub here-of : {tokens tree : List ℕ} {p : Parser} → Somehow (λ t. t .tokens
 here-of {tokens} {p = p} s there =
     let fine : Fine (s .t .text) tokens (cursorOf (p .lexer)) = rw (s .seen) at (s .ready .steady .fine) in
     here fine there
+
+-- the cursor is fine in what the code was handed
+pub fine-of : {text tokens tree : List ℕ} {p : Parser} → Somehow (λ t. (t .text ≡ text) × (t .tokens ≡ tokens)) p tree
+    → Fine text tokens (cursorOf (p .lexer))
+fine-of s = rw (s .seen .0, s .seen .1) at (s .ready .steady .fine)
 
 -- there are few of them
 pub small-token : {tokens tree : List ℕ} {p : Parser} → Somehow (λ t. t .tokens ≡ tokens) p tree → p .lexer .token ≤ 16384

@@ -21,6 +21,7 @@ use Rattle.state.specs.Contract.{MarkOk, Steady, Passed, Leafed, Begun, 
 use Rattle.state.specs.declared.KeptMark.{KeptMark}
 use Rattle.state.specs.declared.Parser.{Parser}
 use Rattle.state.specs.declared.Step.{Step}
+use Rattle.state.proofs.Walk.{passing}
 
 -- a mark is good for more rows too
 pub mark-more : (m : KeptMark) (b u : GreenNodeBuilder) → b .rows ≤ u .rows → MarkOk m b → MarkOk m u
@@ -71,18 +72,7 @@ module _ (p : Parser) (t v notes : List ℕ) where
   pub on-the-way : {tables : Tables} (u : GreenNodeBuilder) → length v ≡ length t → drop (u .rows * 4) v ≡ drop (u .rows * 4) t
       → p .builder .rows ≤ u .rows → u .leaves ≡ p .builder .leaves
       → Passed tables 0 p before (rebuilt p u) after
-  on-the-way u long rest more leaves =
-      record {
-        tree = rest;
-        notes = refl;
-        tree-long = long;
-        notes-long = refl;
-        rows = more;
-        dropped = omega arith;
-        token = omega arith;
-        read = omega arith;
-        light = omega arith;
-      }
+  on-the-way u long rest more leaves = passing rest refl long refl (omega arith)
 
   pub begun : {tables : Tables} (u : GreenNodeBuilder) → length v ≡ length t → Steady tables p before → facts.Opens (p .builder) t u v
       → Begun tables p before (rebuilt p u) after

@@ -5,3 +5,4 @@ pub mod Loop
 pub mod Outside
 pub mod Turn
 pub mod Marks
+pub mod Left

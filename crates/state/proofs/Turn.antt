@@ -89,7 +89,7 @@ leaves-node {gain = gain} ready w k e =
     record {
       is = steps-on w k e;
       passed = weaker gain (omega arith) passed;
-      ready = record { steady = ended .steady; within = record { depth = omega arith; first = omega arith; node = omega arith } };
+      ready = record { steady = ended .steady; within = omega arith };
       depth = omega arith;
       few = omega arith;
       home = (first, node);

@@ -9,7 +9,7 @@ use Rattle.rules.specs.Limits.{nodes, treeWidth, droppedWidth}
 use Rattle.rules.specs.Outcome.{Out, went, refused, bind}
 use Rattle.rules.specs.Checks.{Tables, sourceOf}
 use Rattle.state.specs.Stands.{Buffers, Here, posOf, outOf}
-use Rattle.state.specs.Contract.{Ready, Passed, Left, Begun, Ended, Gone, Told, RuleOf, Ran, Opens, Closes, Runs, Somehow}
+use Rattle.state.specs.Contract.{Ready, Passed, Left, Begun, Ended, Gone, Told, RuleOf, Ran, Opens, Closes, Runs, Somehow, leftOf, weight}
 use Rattle.state.specs.declared.Parser.{Parser}
 use Rattle.state.specs.declared.Step.{Step}
 use Rattle.state.specs.declared.Step.the-variants.{Went, Refused}
@@ -72,49 +72,47 @@ drop-more n m x y le e =
     let up : n + (m - n) ≡ m = omega arith in
     rw (← up) (sym (drop-drop (m - n) n x) ∙ ap (λ (l : List ℕ). drop (m - n) l) e ∙ drop-drop (m - n) n y)
 
+-- how far q is ahead of p, in numbers
+pub record Ahead (t : Tables) (gain : ℕ) (p q : Parser) : Type 0 where
+  pub rows : p .builder .rows ≤ q .builder .rows
+  pub dropped : p .dropped ≤ q .dropped
+  pub token : p .lexer .token ≤ q .lexer .token
+  pub read : leftOf t q + gain ≤ leftOf t p
+  pub light : weight t q ≤ weight t p
+
+-- what both buffers share behind q's rows, their lengths, and the numbers
+pub passing : {t : Tables} {gain : ℕ} {p : Parser} {m : Buffers} {q : Parser} {v : Buffers}
+    → drop (q .builder .rows * treeWidth) (v .tree) ≡ drop (q .builder .rows * treeWidth) (m .tree)
+    → drop (q .dropped * droppedWidth) (v .dropped) ≡ drop (q .dropped * droppedWidth) (m .dropped)
+    → length (v .tree) ≡ length (m .tree) → length (v .dropped) ≡ length (m .dropped) → Ahead t gain p q
+    → Passed t gain p m q v
+passing tree notes tree-long notes-long a = record {
+  tree = tree;
+  notes = notes;
+  tree-long = tree-long;
+  notes-long = notes-long;
+  rows = a .rows;
+  dropped = a .dropped;
+  token = a .token;
+  read = a .read;
+  light = a .light;
+}
+
 pub passed-then : {t : Tables} {g h : ℕ} {p : Parser} {m : Buffers} {q : Parser} {v : Buffers} {z : Parser} {x : Buffers} → Passed t g p m q v
     → Passed t h q v z x → Passed t (g + h) p m z x
 passed-then {m} {q} {v} {z} a b =
-    record {
-      tree = b .tree ∙ drop-more (q .builder .rows * treeWidth) (z .builder .rows * treeWidth) (v .tree) (m .tree) (omega arith) (a .tree);
-      notes = b .notes ∙ drop-more (q .dropped * droppedWidth) (z .dropped * droppedWidth) (v .dropped) (m .dropped) (omega arith) (a .notes);
-      tree-long = b .tree-long ∙ a .tree-long;
-      notes-long = b .notes-long ∙ a .notes-long;
-      rows = omega arith;
-      dropped = omega arith;
-      token = omega arith;
-      read = omega arith;
-      light = omega arith;
-    }
+    passing
+    (b .tree ∙ drop-more (q .builder .rows * treeWidth) (z .builder .rows * treeWidth) (v .tree) (m .tree) (omega arith) (a .tree))
+    (b .notes ∙ drop-more (q .dropped * droppedWidth) (z .dropped * droppedWidth) (v .dropped) (m .dropped) (omega arith) (a .notes))
+    (b .tree-long ∙ a .tree-long) (b .notes-long ∙ a .notes-long) (omega arith)
 
 -- nothing was done
 pub stays : {t : Tables} {p : Parser} {m : Buffers} → Passed t 0 p m p m
-stays = record {
-  tree = refl;
-  notes = refl;
-  tree-long = refl;
-  notes-long = refl;
-  rows = omega arith;
-  dropped = omega arith;
-  token = omega arith;
-  read = omega arith;
-  light = omega arith;
-}
+stays = passing refl refl refl refl (omega arith)
 
 -- less is claimed of what was read
 pub weaker : {t : Tables} {g : ℕ} {p : Parser} {m : Buffers} {q : Parser} {v : Buffers} (h : ℕ) → h ≤ g → Passed t g p m q v → Passed t h p m q v
-weaker h le a =
-    record {
-      tree = a .tree;
-      notes = a .notes;
-      tree-long = a .tree-long;
-      notes-long = a .notes-long;
-      rows = a .rows;
-      dropped = a .dropped;
-      token = a .token;
-      read = let read = a .read in omega arith;
-      light = a .light;
-    }
+weaker h le a = passing (a .tree) (a .notes) (a .tree-long) (a .notes-long) (omega arith)
 
 -- ---- where the code stands
 
@@ -317,7 +315,7 @@ ends {t} {f = f} {gain} {s} {m} {u} {v} {r} {x} ready w k =
           let shallower = e .depth in
           record {
             passed = weaker gain (omega arith) passed;
-            ready = record { steady = e .steady; within = record { depth = omega arith; first = omega arith; node = omega arith } };
+            ready = record { steady = e .steady; within = omega arith };
             depth = omega arith;
             first = first;
             node = node;

@@ -23,7 +23,7 @@ use Rattle.state.specs.Contract.{Somehow, buffers}
 use Rattle.state.specs.Stands.{Buffers, Here, posOf}
 use Rattle.state.specs.declared.Parser.{Parser}
 use Rattle.lexer.proofs.Laws.{peeked}
-use Rattle.routines.proofs.Leaves.{seen-less}
+use Rattle.routines.proofs.Leaves.{fine-of, seen-less}
 use Rattle.state.proofs.Outside.{ran-seeing}
 use Rattle.state.proofs.Walk.{nothing-done, ran-as, ran-less}
 use Rattle.clauses.proofs.delimiter.Statement.{statement}
@@ -58,11 +58,6 @@ module _ (t : Tables) (kind n : ℕ) (q : Here) where
 
     is-other : eqb kind Dollar ≡ false → eqb kind Word ≡ false → rule ≡ spec.eat (flat n) (sourceOf t) q
     is-other d w = rw (g, c, d, w)
-
--- the cursor is fine in what the code was handed
-fine-of : {text tokens tree : List ℕ} {p : Parser} → Somehow (λ t. (t .text ≡ text) × (t .tokens ≡ tokens)) p tree
-    → Fine text tokens (cursorOf (p .lexer))
-fine-of s = rw (s .seen .0, s .seen .1) at (s .ready .steady .fine)
 
 returns : tie.Need-returns
 unfolding spec.delimiter
