@@ -2,7 +2,6 @@
 use mathlib.Core.Path.{_≡_, refl, sym, ap₂, subst, _∙_}
 use mathlib.Core.List.{List, [], _∷_}
 use Prim.Native.Nat.{ℕ}
-use lib.ListN.{drop}
 use borrow.Author.Needs.{needs}
 use Rattle.rules.specs.Checks.{Tables, sourceOf}
 use Rattle.rules.specs.Flat.{flat}
@@ -10,15 +9,14 @@ use Rattle.rules.specs.Position as position
 use Rattle.rules.specs.Position.{steps}
 use Rattle.rules.specs.Routines as spec
 use Rattle.rules.specs.SyntaxKind.{ItemCmd}
-use Rattle.state.specs.Contract.{Ready, Tokens, MarkOk, buffers}
-use Rattle.state.specs.declared.Parser.{Parser}
+use Rattle.state.specs.Contract.{Tokens, MarkOk}
 use Rattle.state.specs.declared.Step.{Step}
 use Rattle.state.specs.Stands.{keptOf, optionOf, orMark, markIn}
 use Rattle.state.specs.declared.Mark.{Mark}
-use Rattle.state.proofs.Outside.{begins-there}
+use Rattle.state.proofs.Outside.{Alone, node-begins, then-ran, then-ends, still-there, refuses, known-alone, alone-behind, open-behind, ends-with}
 use Rattle.state.proofs.Marks.{taken-ok, left1-is, or-ok}
-use Rattle.state.proofs.Turn.{Turn, calls, opening, closing, done, finishes, around}
-use Rattle.state.proofs.Walk.{Rule, line, begins, ran, ran-by, somehow-then}
+use Rattle.state.proofs.Turn.{finishes, around}
+use Rattle.state.proofs.Walk.{Rule, line}
 use Rattle.clauses.proofs.left1_command.Statement.{statement}
 use Rattle.clauses.proofs.left1_command.Tie as tie
 mod At
@@ -39,35 +37,24 @@ plan b t =
     ∷ (λ n d. position.finish (flat n) ItemCmd (record { first = b .args .p .builder .first; node = b .args .p .builder .node }))
     ∷ []
 
--- how a call ended, whatever the tables and the dropped buffer are: so many steps are done if it went
+-- how a call ended: so many steps are done if it went
 abbrev Turned : tie.Start → ℕ → ℕ → ℕ → Step → List ℕ → Type 0
-Turned b count gain lift r after =
-    (notes : List ℕ) (t : Tables) → Tokens (b .args .tokens) t → Ready t (b .args .p) (buffers (b .args .tree .now) notes)
-    → Turn t (λ n d. spec.left1Command (flat n) (sourceOf t)) (drop count (plan b t)) gain lift (b .args .p .list .scope)
-    (b .args .p) (buffers (b .args .tree .now) notes) r (buffers after notes)
+Turned b = Alone (Tokens (b .args .tokens)) (λ s n. spec.left1Command (flat n) s) (plan b) (b .args .p) (b .args .tree .now)
 
 started : (c : tie.After-start-around) → Turned (start-around→entry c) 1 0 1 (c .start-around .result) (c .start-around .last .0)
 unfolding spec.left1Command steps line
-started c notes t seen ready =
+started c notes =
     let list = start-around→entry c .args .p .list in
-    opening (begins ready (λ n d. rw (left1-is (sourceOf t) n (list .last) (list .start))))
-    (around ItemCmd (chosen-is (start-around→or c)) (c .start-around .ensures)) (c .start-around .kept .0) refl
+    node-begins (λ t n d. rw (left1-is (sourceOf t) n (list .last) (list .start)))
+    (λ t. around ItemCmd (chosen-is (start-around→or c)) (c .start-around .ensures)) (c .start-around .kept .0) refl
 
 eaten : (c : tie.After-eat) → Turned (eat→entry c) 2 1 1 (c .eat .result) (c .eat .last .1 .0)
-eaten c notes t seen ready =
-    let w = started (eat→start-around c) notes t seen ready .went (eat→opened c .opened .given .1) in
-    calls w (ran seen (c .eat .ensures notes)) (c .eat .kept .1 .0) refl
+eaten c notes = then-ran (c .eat .ensures notes) (started (eat→start-around c) notes) (eat→opened c .opened .given .1) (c .eat .kept .1 .0) refl
 
 ended : (c : tie.After-finish-node) → Turned (finish-node→entry c) 3 1 0 (c .finish-node .result) (c .finish-node .last .1 .0)
-ended c notes t seen ready =
-    closing ready (eaten (finish-node→eat c) notes t seen ready .went (finish-node→eaten c .eaten .given .1))
-    (finishes refl (finish-node→frame c .frame .ensures) (c .finish-node .ensures)) (c .finish-node .kept .1 .0) refl
-
--- the node's start reads nothing
-still : (c : tie.After-opened) → c .opened .given .0 .0 .lexer ≡ opened→entry c .args .p .lexer
-still c =
-    let s = opened→entry c .pre .1 in
-    begins-there (s .ready) (opened→start-around c .start-around .ensures (sourceOf (s .t)) (s .notes)) (c .opened .given .1)
+ended c notes =
+    then-ends (λ t. finishes refl (finish-node→frame c .frame .ensures) (c .finish-node .ensures)) (eaten (finish-node→eat c) notes)
+    (finish-node→eaten c .eaten .given .1) (c .finish-node .kept .1 .0) refl
 
 pub left1-command-spec : {M : Type 1} → statement M
 left1-command-spec =
@@ -87,21 +74,19 @@ left1-command-spec =
     (λ c. search needs)
     (λ c. search needs)
     (λ c. search needs)
-    (λ c notes. ran-by (λ t seen ready. started (returns→start-around c) notes t seen ready .refused (c .enum-told .given)))
+    (λ c notes. refuses (started (returns→start-around c) notes) (c .enum-told .given))
     -- eat
     (λ c κs.
-    let s = eat-arg→entry c .pre .1 in
-    let w = started (eat-arg→start-around c) (s .notes) (s .t) (s .seen) (s .ready) .went (eat-arg→opened c .opened .given .1) in
-    (rw (still (eat-arg→opened c)) (eat-arg→entry c .pre .0), somehow-then s (w .ready)))
+    let b = eat-arg→entry c .pre in
+    let begun = eat-arg→opened c .opened .given .1 in
+    let next = still-there (b .1) (eat-arg→start-around c .start-around .ensures (sourceOf (b .1 .t))) begun (b .0) in
+    (next, alone-behind (b .1) (started (eat-arg→start-around c)) begun))
     (λ c. search needs)
     (λ c. search needs)
     (λ c. search needs)
-    (λ c notes. ran-by (λ t seen ready. eaten (returns-2→eat c) notes t seen ready .refused (c .enum-told2 .given)))
+    (λ c notes. refuses (eaten (returns-2→eat c) notes) (c .enum-told2 .given))
     -- finish_node
     (λ c κs. search needs)
-    (λ c κs.
-    let s = frame→entry c .pre .1 in
-    let w = eaten (frame→eat c) (s .notes) (s .t) (s .seen) (s .ready) .went (frame→eaten c .eaten .given .1) in
-    (w .ready .steady .fits, w .ready .within))
+    (λ c κs. open-behind (eaten (frame→eat c) _) (known-alone (frame→entry c .pre .1)) (frame→eaten c .eaten .given .1))
     (λ c. search needs)
-    (λ c notes. ran-by (λ t seen ready. done (ended (returns-3→finish-node c) notes t seen ready))))
+    (λ c notes. ends-with (ended (returns-3→finish-node c) notes)))

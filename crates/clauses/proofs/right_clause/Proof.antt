@@ -1,50 +1,32 @@
 -- `clauses::right_clause` meets its contract: the clause is read where `\right` is next, and else nothing is done. Assumes nothing.
-use mathlib.Core.Path.{sym}
-use lib.Dec.{eqb}
 use borrow.Author.Needs.{needs}
-use borrow.Author.Tests.{eq-eqb, ne-eqb}
-use Rattle.rules.specs.Routines.{rightClause}
+use Rattle.rules.specs.Flat.{flat}
+use Rattle.rules.specs.Routines as spec
 use Rattle.rules.specs.Token.{Right}
 use Rattle.lexer.proofs.Laws.{peeked}
-use Rattle.routines.proofs.Asked.{asked-kind, asked-end}
-use Rattle.state.proofs.Walk.{nothing-done, ran-as, ran-less}
+use Rattle.state.specs.Contract.{RuleOf}
+use Rattle.routines.proofs.ByNext.{none-next, kind-next, other-next}
 use Rattle.clauses.proofs.right_clause.Statement.{statement}
 use Rattle.clauses.proofs.right_clause.Tie as tie
 mod At
 use At.*
 
-returns : tie.Need-returns
-unfolding rightClause
-returns c notes = nothing-done (λ t seen n. rw (seen .1, asked-end _ _ (returns→peek c .peek .ensures) (eqb Right) (c .enum-told .given .1)))
-
-clause-lr-requires : tie.Need-clause-lr-requires
-clause-lr-requires c κs =
-    let there = peeked _ _ (clause-lr-arg→peek c .peek .ensures) (clause-lr-arg→peeked c .peeked .given .1) .there in
-    (there, clause-lr-arg→entry c .pre)
-
-returns-2 : tie.Need-returns-2
-unfolding rightClause
-returns-2 c notes =
-    let next = asked-kind _ _ (returns-2→peek c .peek .ensures) (eqb Right) (returns-2→peeked c .peeked .given .1) in
-    let is = eq-eqb _ _ (sym (returns-2→then1 c .if1 .taken)) in
-    ran-less (ran-as (returns-2→clause-lr c .clause-lr .ensures notes) (λ t seen n. rw (seen .1, next, is)))
-
-returns-3 : tie.Need-returns-3
-unfolding rightClause
-returns-3 c notes =
-    let next = asked-kind _ _ (returns-3→peek c .peek .ensures) (eqb Right) (returns-3→peeked c .peeked .given .1) in
-    let is = ne-eqb _ _ (λ e. c .if1 .left (sym e)) in
-    nothing-done (λ t seen n. rw (seen .1, next, is))
+abbrev read : RuleOf
+read s n = spec.clauseLr (flat n) s
 
 pub right-clause-spec : {M : Type 1} → statement M
+unfolding spec.rightClause
 right-clause-spec =
     tie.close
     (tie.spec
     (λ c κs. search needs)
     (λ c. search needs)
     (λ c. search needs)
-    returns
-    clause-lr-requires
+    (λ c notes. none-next Right read (λ t seen. seen .1) (returns→peek c .peek .ensures) (c .enum-told .given .1))
+    -- clause_lr
+    (λ c κs. (peeked _ _ (clause-lr-arg→peek c .peek .ensures) (clause-lr-arg→peeked c .peeked .given .1) .there, clause-lr-arg→entry c .pre))
     (λ c. search needs)
-    returns-2
-    returns-3)
+    (λ c notes.
+    kind-next Right read (λ t seen. seen .1) (returns-2→peek c .peek .ensures) (returns-2→peeked c .peeked .given .1) (returns-2→then1 c .if1 .taken)
+    (returns-2→clause-lr c .clause-lr .ensures notes))
+    (λ c notes. other-next Right read (λ t seen. seen .1) (returns-3→peek c .peek .ensures) (returns-3→peeked c .peeked .given .1) (c .if1 .left)))

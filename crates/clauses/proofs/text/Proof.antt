@@ -1,8 +1,7 @@
 -- `clauses::text` meets its contract: the walk beside its rule. Assumes nothing.
-use mathlib.Core.Path.{_≡_, refl}
+use mathlib.Core.Path.{refl}
 use mathlib.Core.List.{List, [], _∷_}
 use Prim.Native.Nat.{ℕ}
-use lib.ListN.{drop}
 use borrow.Author.Needs.{needs}
 use Rattle.rules.specs.Checks.{Tables, sourceOf}
 use Rattle.rules.specs.Flat.{flat}
@@ -10,12 +9,11 @@ use Rattle.rules.specs.Kinds.{isTextComponent}
 use Rattle.rules.specs.Position.{steps}
 use Rattle.rules.specs.Routines as spec
 use Rattle.rules.specs.SyntaxKind.{ItemText}
-use Rattle.state.specs.Contract.{Ready, Tokens, buffers}
-use Rattle.state.specs.declared.Parser.{Parser}
+use Rattle.state.specs.Contract.{Tokens}
 use Rattle.state.specs.declared.Step.{Step}
-use Rattle.state.proofs.Outside.{node-around, begins-there}
-use Rattle.state.proofs.Turn.{Turn, calls, opening, closing, done, starts, finishes}
-use Rattle.state.proofs.Walk.{Rule, line, begins, ran, ran-by, somehow-then}
+use Rattle.state.proofs.Outside.{Alone, node-around, node-begins, then-ran, then-ends, still-there, refuses, known-alone, alone-behind, open-behind, long-behind, ends-with}
+use Rattle.state.proofs.Turn.{starts, finishes}
+use Rattle.state.proofs.Walk.{Rule, line}
 use Rattle.clauses.proofs.text.Statement.{statement}
 use Rattle.clauses.proofs.text.Tie as tie
 mod At
@@ -29,38 +27,26 @@ plan b t =
     ∷ (λ n d q. spec.eatWhile (flat n) (sourceOf t) isTextComponent (spec.turns (flat n) (sourceOf t) q) q)
     ∷ [])
 
--- how a call ended, whatever the tables and the dropped buffer are: so many steps are done if it went
+-- how a call ended: so many steps are done if it went
 abbrev Turned : tie.Start → ℕ → ℕ → ℕ → Step → List ℕ → Type 0
-Turned b count gain lift r after =
-    (notes : List ℕ) (t : Tables) → Tokens (b .args .tokens) t → Ready t (b .args .p) (buffers (b .args .tree .now) notes)
-    → Turn t (λ n d. spec.text (flat n) (sourceOf t)) (drop count (plan b t)) gain lift (b .args .p .list .scope)
-    (b .args .p) (buffers (b .args .tree .now) notes) r (buffers after notes)
+Turned b = Alone (Tokens (b .args .tokens)) (λ s n. spec.text (flat n) s) (plan b) (b .args .p) (b .args .tree .now)
 
 started : (c : tie.After-start-node) → Turned (start-node→entry c) 1 0 1 (c .start-node .result) (c .start-node .last .1 .0)
 unfolding spec.text steps line
-started c notes t seen ready =
-    opening (begins ready (λ n d. refl)) (starts refl (c .start-node .ensures)) (c .start-node .kept .1 .0) refl
+started c notes = node-begins (λ t n d. refl) (λ t. starts refl (c .start-node .ensures)) (c .start-node .kept .1 .0) refl
 
 eaten : (c : tie.After-eat) → Turned (eat→entry c) 2 1 1 (c .eat .result) (c .eat .last .1 .0)
-eaten c notes t seen ready =
-    let w = started (eat→start-node c) notes t seen ready .went (eat→opened c .opened .given .1) in
-    calls w (ran seen (c .eat .ensures notes)) (c .eat .kept .1 .0) refl
+eaten c notes = then-ran (c .eat .ensures notes) (started (eat→start-node c) notes) (eat→opened c .opened .given .1) (c .eat .kept .1 .0) refl
 
 taken : (c : tie.After-text-components) → Turned (text-components→entry c) 3 1 1 (c .text-components .result) (c .text-components .last .1 .0)
-taken c notes t seen ready =
-    let w = eaten (text-components→eat c) notes t seen ready .went (text-components→eaten c .eaten .given .1) in
-    calls w (ran seen (c .text-components .ensures notes)) (c .text-components .kept .1 .0) refl
+taken c notes =
+    then-ran (c .text-components .ensures notes) (eaten (text-components→eat c) notes) (text-components→eaten c .eaten .given .1)
+    (c .text-components .kept .1 .0) refl
 
 ended : (c : tie.After-finish-node) → Turned (finish-node→entry c) 4 1 0 (c .finish-node .result) (c .finish-node .last .1 .0)
-ended c notes t seen ready =
-    closing ready (taken (finish-node→text-components c) notes t seen ready .went (finish-node→taken c .taken .given .1))
-    (finishes refl (finish-node→frame c .frame .ensures) (c .finish-node .ensures)) (c .finish-node .kept .1 .0) refl
-
--- the node's start reads nothing
-still : (c : tie.After-opened) → c .opened .given .0 .0 .lexer ≡ opened→entry c .args .p .lexer
-still c =
-    let s = opened→entry c .pre .1 in
-    begins-there (s .ready) (opened→start-node c .start-node .ensures (s .notes)) (c .opened .given .1)
+ended c notes =
+    then-ends (λ t. finishes refl (finish-node→frame c .frame .ensures) (c .finish-node .ensures)) (taken (finish-node→text-components c) notes)
+    (finish-node→taken c .taken .given .1) (c .finish-node .kept .1 .0) refl
 
 pub text-spec : {M : Type 1} → statement M
 text-spec =
@@ -71,30 +57,24 @@ text-spec =
     (λ c. search needs)
     (λ c. search needs)
     (λ c. search needs)
-    (λ c notes. ran-by (λ t seen ready. started (returns→start-node c) notes t seen ready .refused (c .enum-told .given)))
+    (λ c notes. refuses (started (returns→start-node c) notes) (c .enum-told .given))
     -- eat
     (λ c κs.
-    let s = eat-arg→entry c .pre .1 in
-    let w = started (eat-arg→start-node c) (s .notes) (s .t) (s .seen) (s .ready) .went (eat-arg→opened c .opened .given .1) in
-    (rw (still (eat-arg→opened c)) (eat-arg→entry c .pre .0), somehow-then s (w .ready)))
+    let b = eat-arg→entry c .pre in
+    let begun = eat-arg→opened c .opened .given .1 in
+    (still-there (b .1) (eat-arg→start-node c .start-node .ensures) begun (b .0), alone-behind (b .1) (started (eat-arg→start-node c)) begun))
     (λ c. search needs)
     (λ c. search needs)
     (λ c. search needs)
-    (λ c notes. ran-by (λ t seen ready. eaten (returns-2→eat c) notes t seen ready .refused (c .enum-told2 .given)))
+    (λ c notes. refuses (eaten (returns-2→eat c) notes) (c .enum-told2 .given))
     -- text_components
-    (λ c κs.
-    let s = text-components-arg→entry c .pre .1 in
-    let w = eaten (text-components-arg→eat c) (s .notes) (s .t) (s .seen) (s .ready) .went (text-components-arg→eaten c .eaten .given .1) in
-    somehow-then s (w .ready))
+    (λ c κs. alone-behind (text-components-arg→entry c .pre .1) (eaten (text-components-arg→eat c)) (text-components-arg→eaten c .eaten .given .1))
     (λ c. search needs)
     (λ c. search needs)
     (λ c. search needs)
-    (λ c notes. ran-by (λ t seen ready. taken (returns-3→text-components c) notes t seen ready .refused (c .enum-told3 .given)))
+    (λ c notes. refuses (taken (returns-3→text-components c) notes) (c .enum-told3 .given))
     -- finish_node
     (λ c κs. search needs)
-    (λ c κs.
-    let s = frame→entry c .pre .1 in
-    let w = taken (frame→text-components c) (s .notes) (s .t) (s .seen) (s .ready) .went (frame→taken c .taken .given .1) in
-    (w .ready .steady .fits, w .ready .within))
-    (λ c. let s = returns-4→entry c .pre .1 in ended (returns-4→finish-node c) (s .notes) (s .t) (s .seen) (s .ready) .tree-long)
-    (λ c notes. ran-by (λ t seen ready. done (ended (returns-4→finish-node c) notes t seen ready))))
+    (λ c κs. open-behind (taken (frame→text-components c) _) (known-alone (frame→entry c .pre .1)) (frame→taken c .taken .given .1))
+    (λ c. long-behind (ended (returns-4→finish-node c) _) (known-alone (returns-4→entry c .pre .1)))
+    (λ c notes. ends-with (ended (returns-4→finish-node c) notes)))
