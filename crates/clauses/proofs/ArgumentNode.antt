@@ -20,7 +20,7 @@ use Rattle.state.specs.declared.Step.{Step}
 use Rattle.state.specs.declared.Step.the-variants.{Went}
 use Rattle.routines.proofs.HeldLaws.{ignores}
 use Rattle.state.proofs.Turn.{begins-last}
-use Rattle.state.proofs.Walk.{line, begins, passes, opens, Stopped, stop, stopped, then-went}
+use Rattle.state.proofs.Walk.{line, begins, passes, opens, passing, Stopped, stop, stopped, then-went}
 
 -- ---- its begin
 
@@ -64,22 +64,11 @@ module _ (frame : Frame) {p : Parser} {m : Buffers} {r : Step} {v : Buffers} {fi
         let ended : Ended t first node p m q v = rw e at (finished .told t ready .gone) in
         let passed = ended .passed in
         let y = ended .steady in
-        let lighter = passed .light in
         let light = y .light in
         record {
           is = then-went _ _ _ _ (finished .told t ready .is ∙ ap (λ (x : Step). outOf x v) e) refl;
           gone = record {
-            passed = record {
-              tree = passed .tree;
-              notes = passed .notes;
-              tree-long = passed .tree-long;
-              notes-long = passed .notes-long;
-              rows = passed .rows;
-              dropped = passed .dropped;
-              token = passed .token;
-              read = passed .read;
-              light = omega arith;
-            };
+            passed = passing (passed .tree) (passed .notes) (passed .tree-long) (passed .notes-long) (omega arith);
             steady = record {
               good = y .good;
               fine = y .fine;

@@ -1,67 +1,75 @@
 -- `clauses::delimiter` meets its contract: its tests are the rule's, and each arm is another routine or nothing. Assumes nothing.
-use mathlib.Core.Path.{_≡_, sym, _∙_}
+use mathlib.Core.Path.{_≡_, refl, sym, ap, _∙_}
 use mathlib.Core.Bool.{true, false}
-use mathlib.Core.List.{List}
-use mathlib.Core.Option.{some}
+use mathlib.Core.Option.{Option, some}
 use Prim.Native.Nat.{ℕ}
 use lib.Dec.{eqb}
 use borrow.Author.Needs.{needs}
 use borrow.Author.Tests.{eq-eqb, ne-eqb}
-use Rattle.rules.specs.Checks.{Tables, sourceOf}
 use Rattle.rules.specs.Cursor.{peek}
 use Rattle.rules.specs.Flat.{flat}
 use Rattle.rules.specs.Items.{isCommandName}
-use Rattle.rules.specs.Outcome.{Out, went}
+use Rattle.rules.specs.Outcome.{went}
+use Rattle.rules.specs.Position.{Source}
 use Rattle.rules.specs.Routines as spec
 use Rattle.rules.specs.SyntaxKind.{TokenCommandSym}
 use Rattle.rules.specs.Token.{Generic, Dollar, Word}
-use Rattle.lexer.specs.Fine.{Fine}
 use Rattle.lexer.specs.Reading.{cursorOf, peekedOf}
-use Rattle.lexer.specs.declared.cursor.Peeked.{Peeked}
-use Rattle.lexer.specs.declared.cursor.Peeked.the-variants.{Kind}
-use Rattle.state.specs.Contract.{Somehow, buffers}
-use Rattle.state.specs.Stands.{Buffers, Here, posOf}
-use Rattle.state.specs.declared.Parser.{Parser}
+use Rattle.state.specs.Contract.{RuleOf}
+use Rattle.state.specs.Stands.{Here}
 use Rattle.lexer.proofs.Laws.{peeked}
+use Rattle.routines.proofs.ByNext.{arm-ran, arm-stays}
 use Rattle.routines.proofs.Leaves.{fine-of, seen-less}
 use Rattle.state.proofs.Outside.{ran-seeing}
-use Rattle.state.proofs.Walk.{nothing-done, ran-as, ran-less}
 use Rattle.clauses.proofs.delimiter.Statement.{statement}
 use Rattle.clauses.proofs.delimiter.Tie as tie
 mod At
 use At.*
 
--- the rule, where a token of this kind is next
-at-kind : (t : Tables) {tokens : List ℕ} (p : Parser) (m : Buffers) {answer : Peeked} {kind : ℕ}
-    → t .tokens ≡ tokens → peek tokens (cursorOf (p .lexer)) ≡ peekedOf answer → answer ≡ Kind kind → (n : ℕ)
-    → spec.delimiter (flat n) (sourceOf t) (posOf p m) ≡ spec.delimiterOf (flat n) (sourceOf t) (some kind) (posOf p m)
-unfolding spec.delimiter
-at-kind t p m seen told e n = rw (seen, told, e)
+-- the rule by the next kind, and its arms by the tests
+abbrev of : Option ℕ → RuleOf
+of next s n = spec.delimiterOf (flat n) s next
 
--- its arms, by the tests
-module _ (t : Tables) (kind n : ℕ) (q : Here) where
-  abbrev rule : Out Here
-  rule = spec.delimiterOf (flat n) (sourceOf t) (some kind) q
+-- neither a command's name that the sheet declares nor one of the parser's own
+abbrev Plain : ℕ → Type 0
+Plain kind = (eqb kind Generic ≡ false) × (isCommandName kind ≡ false)
 
-  is-generic : eqb kind Generic ≡ true → rule ≡ spec.eatAs (flat n) (sourceOf t) TokenCommandSym q
-  is-generic g = rw g
+module _ (kind : ℕ) where
+  is-generic : eqb kind Generic ≡ true → (s : Source) (n : ℕ) (q : Here) → of (some kind) s n q ≡ spec.eatAs (flat n) s TokenCommandSym q
+  is-generic g s n q = rw g
 
-  is-command : eqb kind Generic ≡ false → isCommandName kind ≡ true → rule ≡ went q
-  is-command g c = rw (g, c)
+  is-command : eqb kind Generic ≡ false → isCommandName kind ≡ true → (s : Source) (n : ℕ) (q : Here) → of (some kind) s n q ≡ went q
+  is-command g c s n q = rw (g, c)
 
-  module _ (g : eqb kind Generic ≡ false) (c : isCommandName kind ≡ false) where
-    is-dollar : eqb kind Dollar ≡ true → rule ≡ went q
-    is-dollar d = rw (g, c, d)
+  module _ (plain : Plain kind) where
+    is-dollar : eqb kind Dollar ≡ true → (s : Source) (n : ℕ) (q : Here) → of (some kind) s n q ≡ went q
+    is-dollar d s n q = rw (plain .0, plain .1, d)
 
-    is-word : eqb kind Dollar ≡ false → eqb kind Word ≡ true → rule ≡ spec.singleChar (flat n) (sourceOf t) q
-    is-word d w = rw (g, c, d, w)
+    is-word : eqb kind Dollar ≡ false → eqb kind Word ≡ true → (s : Source) (n : ℕ) (q : Here) → of (some kind) s n q ≡ spec.singleChar (flat n) s q
+    is-word d w s n q = rw (plain .0, plain .1, d, w)
 
-    is-other : eqb kind Dollar ≡ false → eqb kind Word ≡ false → rule ≡ spec.eat (flat n) (sourceOf t) q
-    is-other d w = rw (g, c, d, w)
+    is-other : eqb kind Dollar ≡ false → eqb kind Word ≡ false → (s : Source) (n : ℕ) (q : Here) → of (some kind) s n q ≡ spec.eat (flat n) s q
+    is-other d w s n q = rw (plain .0, plain .1, d, w)
+
+-- ---- what the code was told
+
+abbrev kind-of : tie.After-peeked → ℕ
+kind-of c = c .peeked .given .0 .0
+
+next-is : (c : tie.After-peeked) → peek (peeked→entry c .args .tokens .now) (cursorOf (peeked→entry c .args .p .lexer)) ≡ some (kind-of c)
+next-is c = peeked→peek c .peek .ensures ∙ ap peekedOf (c .peeked .given .1)
+
+plain-of : (c : tie.Else2) → Plain (kind-of (else2→peeked c))
+plain-of c = (ne-eqb _ _ (else2→else1 c .if1 .left), sym (else2→is-command-name c .is-command-name .ensures) ∙ c .if2 .left)
+
+no-dollar : (c : tie.Else3) → eqb (kind-of (else3→peeked c)) Dollar ≡ false
+no-dollar c = ne-eqb _ _ (c .if3 .left)
+
+-- ---- the needs
 
 returns : tie.Need-returns
 unfolding spec.delimiter
-returns c notes = nothing-done (λ t seen n. rw (seen .1, returns→peek c .peek .ensures, c .enum-told .given .1))
+returns c notes = arm-stays (λ t seen. seen .1) of (returns→peek c .peek .ensures ∙ ap peekedOf (c .enum-told .given .1)) (λ s n q. refl)
 
 -- a command's name that is not the parser's own
 eat-as-requires : tie.Need-eat-as-requires
@@ -70,39 +78,26 @@ eat-as-requires c κs =
     (next .there, seen-less (λ t seen. seen .1) (eat-as-arg→entry c .pre))
 
 returns-2 : tie.Need-returns-2
+unfolding spec.delimiter
 returns-2 c notes =
-    let given = returns-2→entry c .args in
-    let m = buffers (given .tree .now) notes in
-    let kind = returns-2→peeked c .peeked .given .0 .0 in
-    let told = returns-2→peek c .peek .ensures in
-    let next = returns-2→peeked c .peeked .given .1 in
-    let generic = eq-eqb _ _ (returns-2→then1 c .if1 .taken) in
-    ran-less (ran-as (ran-seeing (λ t seen. seen .1) (returns-2→eat-as c .eat-as .ensures notes))
-    (λ t seen n. at-kind t (given .p) m (seen .1) told next n ∙ is-generic t kind n (posOf (given .p) m) generic))
+    let here = returns-2→peeked c in
+    arm-ran (λ t seen. seen .1) of (next-is here) (is-generic (kind-of here) (eq-eqb _ _ (returns-2→then1 c .if1 .taken)))
+    (ran-seeing (λ t seen. seen .1) (returns-2→eat-as c .eat-as .ensures notes))
 
 returns-3 : tie.Need-returns-3
+unfolding spec.delimiter
 returns-3 c notes =
-    let given = returns-3→entry c .args in
-    let m = buffers (given .tree .now) notes in
-    let kind = returns-3→peeked c .peeked .given .0 .0 in
-    let told = returns-3→peek c .peek .ensures in
-    let next = returns-3→peeked c .peeked .given .1 in
-    let generic = ne-eqb _ _ (returns-3→else1 c .if1 .left) in
-    let command = sym (returns-3→is-command-name c .is-command-name .ensures) ∙ c .if2 .taken in
-    nothing-done (λ t seen n. at-kind t (given .p) m (seen .1) told next n ∙ is-command t kind n (posOf (given .p) m) generic command)
+    let here = returns-3→peeked c in
+    arm-stays (λ t seen. seen .1) of (next-is here)
+    (is-command (kind-of here) (ne-eqb _ _ (returns-3→else1 c .if1 .left))
+    (sym (returns-3→is-command-name c .is-command-name .ensures) ∙ c .if2 .taken))
 
 -- a dollar
 returns-4 : tie.Need-returns-4
+unfolding spec.delimiter
 returns-4 c notes =
-    let given = returns-4→entry c .args in
-    let m = buffers (given .tree .now) notes in
-    let kind = returns-4→peeked c .peeked .given .0 .0 in
-    let told = returns-4→peek c .peek .ensures in
-    let next = returns-4→peeked c .peeked .given .1 in
-    let generic = ne-eqb _ _ (returns-4→else1 c .if1 .left) in
-    let command = sym (returns-4→is-command-name c .is-command-name .ensures) ∙ returns-4→else2 c .if2 .left in
-    nothing-done (λ t seen n. at-kind t (given .p) m (seen .1) told next n
-    ∙ is-dollar t kind n (posOf (given .p) m) generic command (eq-eqb _ _ (c .if3 .taken)))
+    let here = returns-4→peeked c in
+    arm-stays (λ t seen. seen .1) of (next-is here) (is-dollar (kind-of here) (plain-of (returns-4→else2 c)) (eq-eqb _ _ (c .if3 .taken)))
 
 -- a Word
 peek-text-requires : tie.Need-peek-text-requires
@@ -117,19 +112,13 @@ single-char-requires c κs =
     ((next .there, word), seen-less (λ t seen. (seen .1, rw (seen .0) (c .peek-text .ensures))) (peek-text→entry c .pre))
 
 returns-5 : tie.Need-returns-5
+unfolding spec.delimiter
 returns-5 c notes =
-    let given = returns-5→entry c .args in
-    let m = buffers (given .tree .now) notes in
-    let kind = returns-5→peeked c .peeked .given .0 .0 in
-    let told = returns-5→peek c .peek .ensures in
-    let next = returns-5→peeked c .peeked .given .1 in
-    let generic = ne-eqb _ _ (returns-5→else1 c .if1 .left) in
-    let command = sym (returns-5→is-command-name c .is-command-name .ensures) ∙ returns-5→else2 c .if2 .left in
-    let dollar = ne-eqb _ _ (returns-5→else3 c .if3 .left) in
+    let here = returns-5→peeked c in
     let word = eq-eqb _ _ (returns-5→then4 c .if4 .taken) in
     let text = returns-5→peek-text c .peek-text .ensures in
-    ran-less (ran-as (ran-seeing (λ t seen. (seen .1, rw (seen .0) text)) (returns-5→single-char c .single-char .ensures notes))
-    (λ t seen n. at-kind t (given .p) m (seen .1) told next n ∙ is-word t kind n (posOf (given .p) m) generic command dollar word))
+    arm-ran (λ t seen. seen .1) of (next-is here) (is-word (kind-of here) (plain-of (returns-5→else2 c)) (no-dollar (returns-5→else3 c)) word)
+    (ran-seeing (λ t seen. (seen .1, rw (seen .0) text)) (returns-5→single-char c .single-char .ensures notes))
 
 -- any other token
 eat-requires : tie.Need-eat-requires
@@ -138,18 +127,12 @@ eat-requires c κs =
     (next .there, seen-less (λ t seen. seen .1) (eat-arg→entry c .pre))
 
 returns-6 : tie.Need-returns-6
+unfolding spec.delimiter
 returns-6 c notes =
-    let given = returns-6→entry c .args in
-    let m = buffers (given .tree .now) notes in
-    let kind = returns-6→peeked c .peeked .given .0 .0 in
-    let told = returns-6→peek c .peek .ensures in
-    let next = returns-6→peeked c .peeked .given .1 in
-    let generic = ne-eqb _ _ (returns-6→else1 c .if1 .left) in
-    let command = sym (returns-6→is-command-name c .is-command-name .ensures) ∙ returns-6→else2 c .if2 .left in
-    let dollar = ne-eqb _ _ (returns-6→else3 c .if3 .left) in
+    let here = returns-6→peeked c in
     let word = ne-eqb _ _ (returns-6→else4 c .if4 .left) in
-    ran-less (ran-as (ran-seeing (λ t seen. seen .1) (returns-6→eat c .eat .ensures notes))
-    (λ t seen n. at-kind t (given .p) m (seen .1) told next n ∙ is-other t kind n (posOf (given .p) m) generic command dollar word))
+    arm-ran (λ t seen. seen .1) of (next-is here) (is-other (kind-of here) (plain-of (returns-6→else2 c)) (no-dollar (returns-6→else3 c)) word)
+    (ran-seeing (λ t seen. seen .1) (returns-6→eat c .eat .ensures notes))
 
 pub delimiter-spec : {M : Type 1} → statement M
 delimiter-spec =

@@ -8,15 +8,14 @@ use Rattle.rules.specs.Checks.{Tables, sourceOf}
 use Rattle.rules.specs.Flat.{flat}
 use Rattle.rules.specs.Position.{steps}
 use Rattle.rules.specs.Routines as spec
-use Rattle.state.specs.Contract.{Ready, Begun, Left-of, buffers}
+use Rattle.state.specs.Contract.{Left-of, buffers}
 use Rattle.state.specs.Stands.{Buffers}
-use Rattle.state.specs.declared.Parser.{Parser}
 use Rattle.state.specs.declared.Step.{Step}
 use Rattle.clauses.proofs.ArgumentNode.{framed, word-still, left-still}
 use Rattle.routines.proofs.HeldLaws.{droppable}
-use Rattle.state.proofs.Outside.{ran-seeing, begun-there}
-use Rattle.state.proofs.Turn.{Turn, calls, opening, closing, done, begins-in}
-use Rattle.state.proofs.Walk.{Rule, line, begins, closes, ran, ran-by}
+use Rattle.state.proofs.Outside.{Turned, node-begins, then-ran, then-ends, ran-seeing, begun-there, refuses, ready-behind, open-behind, long-behind, ends-with}
+use Rattle.state.proofs.Turn.{begins-in}
+use Rattle.state.proofs.Walk.{Rule, line, closes}
 use Rattle.clauses.proofs.argument.character.Statement.{statement}
 use Rattle.clauses.proofs.argument.character.Tie as tie
 mod At
@@ -36,41 +35,37 @@ plan b t =
     ∷ (λ n d. spec.argumentEnds (flat n) (sourceOf t) (record { first = b .args .p .builder .first; node = b .args .p .builder .node }))
     ∷ []
 
--- how a call ended, whatever the tables are: so many steps are done if it went
-abbrev Turned : tie.Start → ℕ → ℕ → ℕ → Step → List ℕ → List ℕ → Type 0
-Turned b count gain lift r tree dropped =
-    (t : Tables) → Sees b t → Ready t (b .args .p) (Given b)
-    → Turn t (λ n d. spec.argumentNode (flat n) (sourceOf t) (spec.singleChar (flat n) (sourceOf t))) (drop count (plan b t)) gain lift
-    (b .args .p .list .scope) (b .args .p) (Given b) r (buffers tree dropped)
+-- how a call ended: so many steps are done if it went
+abbrev So : tie.Start → ℕ → ℕ → ℕ → Step → List ℕ → List ℕ → Type 0
+So b count gain lift r tree dropped =
+    Turned (Sees b) (λ s n. spec.argumentNode (flat n) s (spec.singleChar (flat n) s)) (λ t. drop count (plan b t)) gain lift
+    (b .args .p) (Given b) r (buffers tree dropped)
 
 begun : (c : tie.After-begin-argument)
-    → Turned (begin-argument→entry c) 1 0 1 (c .begin-argument .result) (c .begin-argument .last .0) (c .begin-argument .last .1 .0)
+    → So (begin-argument→entry c) 1 0 1 (c .begin-argument .result) (c .begin-argument .last .0) (c .begin-argument .last .1 .0)
 unfolding spec.argumentNode steps line
-begun c t seen ready =
-    opening (begins ready (λ n d. refl)) (begins-in (c .begin-argument .ensures)) (c .begin-argument .kept .0) (c .begin-argument .kept .1 .0)
+begun c = node-begins (λ t n d. refl) (λ t. begins-in (c .begin-argument .ensures)) (c .begin-argument .kept .0) (c .begin-argument .kept .1 .0)
 
 -- the Word is still next
 still : (c : tie.After-opened) → c .opened .given .0 .0 .lexer ≡ opened→entry c .args .p .lexer
 still c = begun-there (opened→entry c .pre .2 .ready) (opened→begin-argument c .begin-argument .ensures) (c .opened .given .1)
 
 taken : (c : tie.After-single-char)
-    → Turned (single-char→entry c) 2 1 1 (c .single-char .result) (c .single-char .last .1 .0)
+    → So (single-char→entry c) 2 1 1 (c .single-char .result) (c .single-char .last .1 .0)
     (single-char→begin-argument c .begin-argument .last .1 .0)
-taken c t seen ready =
+taken c =
     let given = single-char→entry c .args in
     let inside = single-char→opened c .opened .given .0 .0 in
     let same = still (single-char→opened c) in
-    calls (begun (single-char→begin-argument c) t seen ready .went (single-char→opened c .opened .given .1))
-    (ran {sees = Sees (single-char→entry c)} seen
-    (ran-seeing (λ t seen. left-still (given .tokens) (given .word) (given .p) inside t same seen) (c .single-char .ensures _)))
-    (c .single-char .kept .1 .0) refl
+    then-ran (ran-seeing (λ t seen. left-still (given .tokens) (given .word) (given .p) inside t same seen) (c .single-char .ensures _))
+    (begun (single-char→begin-argument c)) (single-char→opened c .opened .given .1) (c .single-char .kept .1 .0) refl
 
 ended : (c : tie.After-end-argument)
-    → Turned (end-argument→entry c) 3 1 0 (c .end-argument .result) (c .end-argument .last .0)
+    → So (end-argument→entry c) 3 1 0 (c .end-argument .result) (c .end-argument .last .0)
     (end-argument→begin-argument c .begin-argument .last .1 .0)
-ended c t seen ready =
-    closing ready (taken (end-argument→single-char c) t seen ready .went (end-argument→taken c .taken .given .1))
-    (closes (framed (sourceOf t) (end-argument→frame c .frame .ensures) (c .end-argument .ensures (sourceOf t)) _)) (c .end-argument .kept .0) refl
+ended c =
+    then-ends (λ t. closes (framed (sourceOf t) (end-argument→frame c .frame .ensures) (c .end-argument .ensures (sourceOf t)) _))
+    (taken (end-argument→single-char c)) (end-argument→taken c .taken .given .1) (c .end-argument .kept .0) refl
 
 pub character-spec : {M : Type 1} → statement M
 character-spec =
@@ -82,28 +77,25 @@ character-spec =
     (λ c. search needs)
     (λ c. search needs)
     (λ c. search needs)
-    (λ c. ran-by (λ t seen ready. begun (returns→begin-argument c) t seen ready .refused (c .enum-told .given)))
+    (λ c. refuses (begun (returns→begin-argument c)) (c .enum-told .given))
     -- single_char
     (λ c κs.
     let k = single-char-arg→entry c .pre .2 in
     let same = still (single-char-arg→opened c) in
-    let w = begun (single-char-arg→begin-argument c) (k .t) (k .seen) (k .ready) .went (single-char-arg→opened c .opened .given .1) in
+    let ready = ready-behind (begun (single-char-arg→begin-argument c)) k (single-char-arg→opened c .opened .given .1) in
     let given = single-char-arg→entry c .args in
     let inside = single-char-arg→opened c .opened .given .0 .0 in (
       word-still (given .tokens) (given .p) inside same (single-char-arg→entry c .pre .0),
-      record { t = k .t; notes = _; seen = left-still (given .tokens) (given .word) (given .p) inside (k .t) same (k .seen); ready = w .ready },
+      record { t = k .t; notes = _; seen = left-still (given .tokens) (given .word) (given .p) inside (k .t) same (k .seen); ready = ready },
     ))
     (λ c. search needs)
     (λ c. search needs)
     (λ c. search needs)
     (λ c. search needs)
-    (λ c. ran-by (λ t seen ready. taken (returns-2→single-char c) t seen ready .refused (c .enum-told2 .given)))
+    (λ c. refuses (taken (returns-2→single-char c)) (c .enum-told2 .given))
     -- end_argument
     (λ c κs. search needs)
-    (λ c κs.
-    let k = frame→entry c .pre .2 in
-    let w = taken (frame→single-char c) (k .t) (k .seen) (k .ready) .went (frame→taken c .taken .given .1) in
-    (w .ready .steady .fits, w .ready .within))
-    (λ c. let k = returns-3→entry c .pre .2 in ended (returns-3→end-argument c) (k .t) (k .seen) (k .ready) .tree-long)
+    (λ c κs. open-behind (taken (frame→single-char c)) (frame→entry c .pre .2) (frame→taken c .taken .given .1))
+    (λ c. long-behind (ended (returns-3→end-argument c)) (returns-3→entry c .pre .2))
     (λ c. search needs)
-    (λ c. ran-by (λ t seen ready. done (ended (returns-3→end-argument c) t seen ready))))
+    (λ c. ends-with (ended (returns-3→end-argument c))))
