@@ -28,7 +28,8 @@ by-next of s n q = of (peek (s .tokens) (q .lexer)) s n q
 same-next : (t : Tables) (tokens : List ℕ) (c : Cursor) {next : Option ℕ} → t .tokens ≡ tokens → peek tokens c ≡ next → peek (t .tokens) c ≡ next
 same-next t tokens c seen told = rw seen told
 
-arm-is : (of : Option ℕ → RuleOf) (t : Tables) (tokens : List ℕ) {next : Option ℕ} (n : ℕ) (q : Here) → t .tokens ≡ tokens → peek tokens (q .lexer) ≡ next
+arm-is : (of : Option ℕ → RuleOf) (t : Tables) (tokens : List ℕ) {next : Option ℕ} (n : ℕ) (q : Here) → t .tokens ≡ tokens
+    → peek tokens (q .lexer) ≡ next
     → by-next of (sourceOf t) n q ≡ of next (sourceOf t) n q
 arm-is of t tokens n q seen told = ap (λ o. of o (sourceOf t) n q) (same-next t tokens (q .lexer) seen told)
 

@@ -17,8 +17,9 @@ use Rattle.state.specs.Contract.{Ready, Left}
 use Rattle.skipped.specs.Body.{RowFree, Dropped, dropping}
 use Rattle.state.specs.declared.Parser.{Parser}
 use Rattle.state.specs.declared.Step.the-variants.{Went}
+use Rattle.state.proofs.Left.{remains}
 use Rattle.state.proofs.Outside.{beside}
-use Rattle.state.proofs.Walk.{Call}
+use Rattle.state.proofs.Walk.{Call, passing}
 
 -- there is room for its row
 pub row-free : {t : Tables} {p : Parser} {m : Buffers} → Ready t p m → p .lexer .token < tokenCount (t .tokens) → RowFree p (m .dropped)
@@ -41,40 +42,11 @@ module _ {t : Tables} {reason : ℕ} {p q : Parser} {tree notes after : List ℕ
       let s = ready .steady in
       let less = left-eaten (s .fine) there in
       let few = s .dropped in
-      let light = s .light in
       let room = row-free ready there .room in
       let long : length after ≡ length notes = rw (done .row) (simp (length-append, length-take, length-drop) (omega arith)) in
-      record {
-        passed = record {
-          tree = refl;
-          notes = the-rest droppedWidth (p .dropped) notes after (droppedRow (p .lexer .token) reason (p .builder .leaves)) refl room (done .row);
-          tree-long = refl;
-          notes-long = long;
-          rows = omega arith;
-          dropped = omega arith;
-          token = omega arith;
-          read = omega arith;
-          light = omega arith;
-        };
-        ready = record {
-          steady = record {
-            good = s .good;
-            fine = eaten-fine (s .fine);
-            token = omega arith;
-            fits = s .fits;
-            start = s .start;
-            last = s .last;
-            dropped = omega arith;
-            notes = let notes = s .notes in omega arith;
-            light = omega arith;
-          };
-          within = ready .within;
-        };
-        depth = refl;
-        first = refl;
-        node = refl;
-        scope = refl;
-      }
+      let row = droppedRow (p .lexer .token) reason (p .builder .leaves) in
+      let rest = the-rest droppedWidth (p .dropped) notes after row refl room (done .row) in
+      remains ready (passing refl rest refl long (omega arith)) (eaten-fine (s .fine)) (omega arith) (omega arith) (s .fits) refl refl refl refl
 
 -- the step of a walk
 pub drops : {t : Tables} {reason : ℕ} {p q : Parser} {tree notes after : List ℕ} {lift : ℕ} → Dropped reason p notes q after

@@ -48,7 +48,8 @@ passed c notes =
 
 taken : (c : tie.After-delimiter) → Turned (delimiter→entry c) 4 1 1 (c .delimiter .result) (c .delimiter .last .1 .1 .0)
 taken c notes =
-    then-ran (c .delimiter .ensures notes) (passed (delimiter→trivia c) notes) (delimiter→passed c .passed .given .1) (c .delimiter .kept .1 .1 .0) refl
+    then-ran (c .delimiter .ensures notes) (passed (delimiter→trivia c) notes) (delimiter→passed c .passed .given .1)
+    (c .delimiter .kept .1 .1 .0) refl
 
 ended : (c : tie.After-finish-node) → Turned (finish-node→entry c) 5 1 0 (c .finish-node .result) (c .finish-node .last .1 .0)
 ended c notes =
@@ -76,7 +77,9 @@ clause-lr-spec =
     (λ c. search needs)
     (λ c notes. refuses (eaten (returns-2→eat c) notes) (c .enum-told2 .given))
     -- trivia
-    (λ c κs. seen-less (λ t seen. seen .1) (alone-behind (trivia-arg→entry c .pre .1) (eaten (trivia-arg→eat c)) (trivia-arg→eaten c .eaten .given .1)))
+    (λ c κs.
+    let behind = alone-behind (trivia-arg→entry c .pre .1) (eaten (trivia-arg→eat c)) (trivia-arg→eaten c .eaten .given .1) in
+    seen-less (λ t seen. seen .1) behind)
     (λ c. search needs)
     (λ c. search needs)
     (λ c. search needs)

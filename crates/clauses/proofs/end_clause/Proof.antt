@@ -28,6 +28,7 @@ end-clause-spec =
     (λ c κs. (peeked _ _ (one-in-arg→peek c .peek .ensures) (one-in-arg→peeked c .peeked .given .1) .there, one-in-arg→entry c .pre))
     (λ c. search needs)
     (λ c notes.
-    kind-next EndEnvironment read (λ t seen. seen) (returns-2→peek c .peek .ensures) (returns-2→peeked c .peeked .given .1) (returns-2→then1 c .if1 .taken)
-    (returns-2→one-in c .one-in .ensures notes))
-    (λ c notes. other-next EndEnvironment read (λ t seen. seen) (returns-3→peek c .peek .ensures) (returns-3→peeked c .peeked .given .1) (c .if1 .left)))
+    kind-next EndEnvironment read (λ t seen. seen) (returns-2→peek c .peek .ensures) (returns-2→peeked c .peeked .given .1)
+    (returns-2→then1 c .if1 .taken) (returns-2→one-in c .one-in .ensures notes))
+    (λ c notes.
+    other-next EndEnvironment read (λ t seen. seen) (returns-3→peek c .peek .ensures) (returns-3→peeked c .peeked .given .1) (c .if1 .left)))
