@@ -14,16 +14,11 @@ use Rattle.state.specs.declared.Parser.{Parser}
 use Rattle.state.specs.declared.Step.{Step}
 use Rattle.state.specs.declared.Step.the-variants.{Went}
 use Rattle.state.proofs.Turn.{Turn, calls, opening, closing, done}
-use Rattle.state.proofs.Walk.{Rule, Walk, Call, Stopped, line, begins, ran, ran-by, somehow-then}
+use Rattle.state.proofs.Walk.{Rule, Call, Stopped, line, begins, ran, ran-by, somehow-then}
 
 -- both buffers, by the one that is seen
 abbrev pub beside : List ℕ → List ℕ → Buffers
 beside notes tree = record { tree = tree; dropped = notes }
-
--- from p and m the code came to u and v, with `rest` left of its rule
-abbrev pub Came : (Tables → Type 0) → RuleOf → (Tables → List Rule) → ℕ → ℕ → Parser → Buffers → Parser → Buffers → Type 0
-Came sees rule rest gain lift p m u v =
-    (t : Tables) → sees t → Ready t p m → Walk t (λ n d. rule (sourceOf t) n) (rest t) gain lift (p .list .scope) p m u v
 
 -- a node that p begins and ends around these steps
 abbrev pub node-around : ℕ → Parser → List Rule → List Rule
@@ -121,3 +116,11 @@ pub alone-behind : {sees : Tables → Type 0} {rule : RuleOf} {rest : Tables →
     → ((notes : List ℕ) → Turned sees rule rest gain lift p (buffers tree notes) r (buffers after notes)) → r ≡ Went z
     → Somehow sees z after
 alone-behind s turned e = somehow-then s (ready-behind (turned (s .notes)) (known-alone s) e)
+
+-- the same where the call began a node, and a token was next: it still is
+pub first-inside : {sees : Tables → Type 0} {rule : RuleOf} {rest : Tables → List Rule} {opening : ℕ → Here → Out Here} {gain lift n : ℕ}
+    → {p : Parser} {tree after : List ℕ} {r : Step} {z : Parser} (s : Somehow sees p tree) → p .lexer .token < n
+    → ((notes : List ℕ) → Opens opening p (buffers tree notes) r (buffers after notes))
+    → ((notes : List ℕ) → Turned sees rule rest gain lift p (buffers tree notes) r (buffers after notes)) → r ≡ Went z
+    → (z .lexer .token < n) × Somehow sees z after
+first-inside s next k turned e = (still-there s k e next, alone-behind s turned e)

@@ -11,7 +11,7 @@ use Rattle.rules.specs.SyntaxKind.{ClauseLR}
 use Rattle.state.specs.Contract.{Texts}
 use Rattle.state.specs.declared.Step.{Step}
 use Rattle.routines.proofs.Leaves.{seen-less}
-use Rattle.state.proofs.Outside.{Alone, node-around, node-begins, then-ran, then-ends, ran-seeing, still-there, refuses, known-alone, alone-behind, open-behind, long-behind, ends-with}
+use Rattle.state.proofs.Outside.{Alone, node-around, node-begins, then-ran, then-ends, ran-seeing, first-inside, refuses, known-alone, alone-behind, open-behind, long-behind, ends-with}
 use Rattle.state.proofs.Turn.{starts, finishes}
 use Rattle.state.proofs.Walk.{Rule, line}
 use Rattle.clauses.proofs.clause_lr.Statement.{statement}
@@ -68,10 +68,10 @@ clause-lr-spec =
     (λ c notes. refuses (started (returns→start-node c) notes) (c .enum-told .given))
     -- eat
     (λ c κs.
-    let b = eat-arg→entry c .pre in
-    let begun = eat-arg→opened c .opened .given .1 in
-    let inside = alone-behind (b .1) (started (eat-arg→start-node c)) begun in
-    (still-there (b .1) (eat-arg→start-node c .start-node .ensures) begun (b .0), seen-less (λ t seen. seen .1) inside))
+    let pre = eat-arg→entry c .pre in
+    let start = eat-arg→start-node c in
+    let inside = first-inside (pre .1) (pre .0) (start .start-node .ensures) (started start) (eat-arg→opened c .opened .given .1) in
+    (inside .0, seen-less (λ t seen. seen .1) (inside .1)))
     (λ c. search needs)
     (λ c. search needs)
     (λ c. search needs)

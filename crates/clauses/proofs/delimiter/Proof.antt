@@ -15,7 +15,7 @@ use Rattle.rules.specs.Routines as spec
 use Rattle.rules.specs.SyntaxKind.{TokenCommandSym}
 use Rattle.rules.specs.Token.{Generic, Dollar, Word}
 use Rattle.lexer.specs.Reading.{cursorOf, peekedOf}
-use Rattle.state.specs.Contract.{RuleOf}
+use Rattle.state.specs.Contract.{RuleOf, Somehow, There, Tokens}
 use Rattle.state.specs.Stands.{Here}
 use Rattle.lexer.proofs.Laws.{peeked}
 use Rattle.routines.proofs.ByNext.{arm-ran, arm-stays}
@@ -59,6 +59,12 @@ kind-of c = c .peeked .given .0 .0
 next-is : (c : tie.After-peeked) → peek (peeked→entry c .args .tokens .now) (cursorOf (peeked→entry c .args .p .lexer)) ≡ some (kind-of c)
 next-is c = peeked→peek c .peek .ensures ∙ ap peekedOf (c .peeked .given .1)
 
+-- so a routine may eat it
+there : (c : tie.After-peeked)
+    → There (peeked→entry c .args .tokens) (peeked→entry c .args .p)
+    × Somehow (Tokens (peeked→entry c .args .tokens)) (peeked→entry c .args .p) (peeked→entry c .args .tree .now)
+there c = (peeked _ _ (peeked→peek c .peek .ensures) (c .peeked .given .1) .there, seen-less (λ t seen. seen .1) (peeked→entry c .pre))
+
 plain-of : (c : tie.Else2) → Plain (kind-of (else2→peeked c))
 plain-of c = (ne-eqb _ _ (else2→else1 c .if1 .left), sym (else2→is-command-name c .is-command-name .ensures) ∙ c .if2 .left)
 
@@ -72,11 +78,6 @@ unfolding spec.delimiter
 returns c notes = arm-stays (λ t seen. seen .1) of (returns→peek c .peek .ensures ∙ ap peekedOf (c .enum-told .given .1)) (λ s n q. refl)
 
 -- a command's name that is not the parser's own
-eat-as-requires : tie.Need-eat-as-requires
-eat-as-requires c κs =
-    let next = peeked _ _ (eat-as-arg→peek c .peek .ensures) (eat-as-arg→peeked c .peeked .given .1) in
-    (next .there, seen-less (λ t seen. seen .1) (eat-as-arg→entry c .pre))
-
 returns-2 : tie.Need-returns-2
 unfolding spec.delimiter
 returns-2 c notes =
@@ -121,11 +122,6 @@ returns-5 c notes =
     (ran-seeing (λ t seen. (seen .1, rw (seen .0) text)) (returns-5→single-char c .single-char .ensures notes))
 
 -- any other token
-eat-requires : tie.Need-eat-requires
-eat-requires c κs =
-    let next = peeked _ _ (eat-arg→peek c .peek .ensures) (eat-arg→peeked c .peeked .given .1) in
-    (next .there, seen-less (λ t seen. seen .1) (eat-arg→entry c .pre))
-
 returns-6 : tie.Need-returns-6
 unfolding spec.delimiter
 returns-6 c notes =
@@ -142,7 +138,7 @@ delimiter-spec =
     (λ c. search needs)
     (λ c. search needs)
     returns
-    eat-as-requires
+    (λ c κs. there (eat-as-arg→peeked c))
     (λ c. search needs)
     returns-2
     (λ c κs. search needs)
@@ -152,6 +148,6 @@ delimiter-spec =
     single-char-requires
     (λ c. search needs)
     returns-5
-    eat-requires
+    (λ c κs. there (eat-arg→peeked c))
     (λ c. search needs)
     returns-6)

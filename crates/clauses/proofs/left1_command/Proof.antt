@@ -13,7 +13,7 @@ use Rattle.state.specs.Contract.{Tokens, MarkOk}
 use Rattle.state.specs.declared.Step.{Step}
 use Rattle.state.specs.Stands.{keptOf, optionOf, orMark, markIn}
 use Rattle.state.specs.declared.Mark.{Mark}
-use Rattle.state.proofs.Outside.{Alone, node-begins, then-ran, then-ends, still-there, refuses, known-alone, alone-behind, open-behind, ends-with}
+use Rattle.state.proofs.Outside.{Alone, node-begins, then-ran, then-ends, first-inside, refuses, known-alone, open-behind, ends-with}
 use Rattle.state.proofs.Marks.{taken-ok, left1-is, or-ok}
 use Rattle.state.proofs.Turn.{finishes, around}
 use Rattle.state.proofs.Walk.{Rule, line}
@@ -77,10 +77,9 @@ left1-command-spec =
     (λ c notes. refuses (started (returns→start-around c) notes) (c .enum-told .given))
     -- eat
     (λ c κs.
-    let b = eat-arg→entry c .pre in
-    let begun = eat-arg→opened c .opened .given .1 in
-    let next = still-there (b .1) (eat-arg→start-around c .start-around .ensures (sourceOf (b .1 .t))) begun (b .0) in
-    (next, alone-behind (b .1) (started (eat-arg→start-around c)) begun))
+    let s = eat-arg→entry c .pre .1 in
+    let start = eat-arg→start-around c in
+    first-inside s (eat-arg→entry c .pre .0) (start .start-around .ensures (sourceOf (s .t))) (started start) (eat-arg→opened c .opened .given .1))
     (λ c. search needs)
     (λ c. search needs)
     (λ c. search needs)

@@ -13,12 +13,6 @@ returns→peek c = c .before .before
 abbrev pub eat-as-arg→peeked : tie.After-eat-as-arg → tie.After-peeked
 eat-as-arg→peeked c = c .before .before .before
 
-abbrev pub eat-as-arg→peek : tie.After-eat-as-arg → tie.After-peek
-eat-as-arg→peek c = peeked→peek (eat-as-arg→peeked c)
-
-abbrev pub eat-as-arg→entry : tie.After-eat-as-arg → tie.Start
-eat-as-arg→entry c = peeked→entry (eat-as-arg→peeked c)
-
 abbrev pub returns-2→eat-as : tie.After-slice-known2 → tie.After-eat-as
 returns-2→eat-as c = c .before .before
 
@@ -96,12 +90,6 @@ returns-5→peeked c = else2→peeked (returns-5→else2 c)
 
 abbrev pub eat-arg→peeked : tie.After-eat-arg → tie.After-peeked
 eat-arg→peeked c = c .before .before .before .before .before .before .before
-
-abbrev pub eat-arg→peek : tie.After-eat-arg → tie.After-peek
-eat-arg→peek c = peeked→peek (eat-arg→peeked c)
-
-abbrev pub eat-arg→entry : tie.After-eat-arg → tie.Start
-eat-arg→entry c = peeked→entry (eat-arg→peeked c)
 
 abbrev pub returns-6→eat : tie.After-slice-known4 → tie.After-eat
 returns-6→eat c = c .before .before

@@ -9,7 +9,7 @@ use Rattle.rules.specs.Position.{steps}
 use Rattle.rules.specs.Routines as spec
 use Rattle.state.specs.Contract.{Tokens}
 use Rattle.state.specs.declared.Step.{Step}
-use Rattle.state.proofs.Outside.{Alone, node-around, node-begins, then-ran, then-ends, still-there, refuses, known-alone, alone-behind, open-behind, ends-with}
+use Rattle.state.proofs.Outside.{Alone, node-around, node-begins, then-ran, then-ends, first-inside, refuses, known-alone, open-behind, ends-with}
 use Rattle.state.proofs.Turn.{starts, finishes}
 use Rattle.state.proofs.Walk.{Rule, line}
 use Rattle.routines.proofs.tokens.one_in.Statement.{statement}
@@ -49,9 +49,9 @@ one-in-spec =
     (λ c notes. refuses (started (returns→start-node c) notes) (c .enum-told .given))
     -- eat
     (λ c κs.
-    let b = eat-arg→entry c .pre in
-    let begun = eat-arg→opened c .opened .given .1 in
-    (still-there (b .1) (eat-arg→start-node c .start-node .ensures) begun (b .0), alone-behind (b .1) (started (eat-arg→start-node c)) begun))
+    let pre = eat-arg→entry c .pre in
+    let start = eat-arg→start-node c in
+    first-inside (pre .1) (pre .0) (start .start-node .ensures) (started start) (eat-arg→opened c .opened .given .1))
     (λ c. search needs)
     (λ c. search needs)
     (λ c. search needs)

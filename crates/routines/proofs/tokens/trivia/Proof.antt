@@ -27,7 +27,8 @@ trivia-spec =
     (λ c. eating-begins)
     (λ c κs. search needs)
     -- eat
-    (λ c κs. eating-next (eat-arg→loop c .loop .inv) (eat-arg→more-trivia c .more-trivia .ensures) (eat-arg→then1 c .if1 .taken) (eat-arg→entry c .pre))
+    (λ c κs.
+    eating-next (eat-arg→loop c .loop .inv) (eat-arg→more-trivia c .more-trivia .ensures) (eat-arg→then1 c .if1 .taken) (eat-arg→entry c .pre))
     (λ c. search needs)
     (λ c. search needs)
     (λ c. told→eat c .eat .kept .1 .0 ∙ eating-long (told→loop c .loop .inv) (told→entry c .pre))
