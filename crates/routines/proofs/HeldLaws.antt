@@ -15,8 +15,6 @@ use Rattle.rules.specs.Position as position
 use Rattle.rules.specs.Position.{Source}
 use Rattle.rules.specs.Routines.{holdTrivia, dropFrom, ignoreHoldingTrivia, leavesFrom, extractHoldingTrivia}
 use Rattle.rules.specs.Tables.{tokenCount, kindAt, startAt, lengthAt}
-use Rattle.lexer.specs.Fine.{Fine}
-use Rattle.lexer.specs.Reading.{cursorOf}
 use Rattle.lexer.specs.declared.cursor.Lexer.{Lexer}
 use Rattle.lexer.proofs.Laws.{eaten-fine, left-eaten}
 use Rattle.builder.specs.Contract.{Fits}
@@ -24,7 +22,7 @@ use Rattle.builder.specs.Stands.{rowsOf}
 use Rattle.builder.proofs.Numbers.{one-more, the-rest}
 use Rattle.state.specs.Stands.{Buffers, Here, posOf, outOf}
 use Rattle.state.specs.Change.{relexed, unheld}
-use Rattle.state.specs.Contract.{Ready, Passed, Left, Leafed, Told, Ran, Somehow, Holding, Droppable, Ignored, buffers}
+use Rattle.state.specs.Contract.{Ready, Left, Leafed, Told, Ran, Somehow, Holding, Droppable, Ignored, buffers}
 use Rattle.state.specs.declared.Parser.{Parser}
 use Rattle.state.specs.declared.Step.{Step}
 use Rattle.state.specs.declared.Step.the-variants.{Went}

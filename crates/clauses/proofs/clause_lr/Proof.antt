@@ -1,4 +1,4 @@
--- `clauses::clause_lr` meets its contract: the walk beside its rule. Assumes nothing.
+-- `clause_lr` meets its contract: the walk beside its rule. Assumes nothing.
 use mathlib.Core.Path.{refl}
 use mathlib.Core.List.{List, [], _∷_}
 use Prim.Native.Nat.{ℕ}

@@ -1,4 +1,4 @@
--- `clauses::delimiter` meets its contract: its tests are the rule's, and each arm is another routine or nothing. Assumes nothing.
+-- `delimiter` meets its contract: its tests are the rule's, and each arm is another routine or nothing. Assumes nothing.
 use mathlib.Core.Path.{_≡_, refl, sym, ap, _∙_}
 use mathlib.Core.Bool.{true, false}
 use mathlib.Core.Option.{Option, some}

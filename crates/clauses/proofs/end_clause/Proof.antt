@@ -1,4 +1,4 @@
--- `clauses::end_clause` meets its contract: the token has a node of its own where it ends an environment, and else nothing is done. Assumes nothing.
+-- `end_clause` meets its contract: the token has a node of its own where it ends an environment, and else nothing is done. Assumes nothing.
 use borrow.Author.Needs.{needs}
 use Rattle.rules.specs.Flat.{flat}
 use Rattle.rules.specs.Routines as spec

@@ -1,4 +1,4 @@
--- `clauses::left1_command` meets its contract: the walk beside its rule, from the mark that the rule chooses. Assumes nothing.
+-- `left1_command` meets its contract: the walk beside its rule, from the mark that the rule chooses. Assumes nothing.
 use mathlib.Core.Path.{_≡_, refl, sym, ap₂, subst, _∙_}
 use mathlib.Core.List.{List, [], _∷_}
 use Prim.Native.Nat.{ℕ}

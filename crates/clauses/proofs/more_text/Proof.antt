@@ -1,4 +1,4 @@
--- `clauses::more_text` meets its contract: by what `peek` told. Assumes nothing.
+-- `more_text` meets its contract: by what `peek` told. Assumes nothing.
 use mathlib.Core.Path.{sym, _∙_}
 use borrow.Author.Needs.{needs}
 use Rattle.rules.specs.Kinds.{isTextComponent}

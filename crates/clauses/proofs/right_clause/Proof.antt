@@ -1,4 +1,4 @@
--- `clauses::right_clause` meets its contract: the clause is read where `\right` is next, and else nothing is done. Assumes nothing.
+-- `right_clause` meets its contract: the clause is read where `\right` is next, and else nothing is done. Assumes nothing.
 use borrow.Author.Needs.{needs}
 use Rattle.rules.specs.Flat.{flat}
 use Rattle.rules.specs.Routines as spec

@@ -1,4 +1,4 @@
--- `clauses::start_around` meets its contract: the rule goes by cases on the mark too. Assumes nothing.
+-- `start_around` meets its contract: the rule goes by cases on the mark too. Assumes nothing.
 use borrow.Author.Needs.{needs}
 use mathlib.Core.Path.{_≡_}
 use Rattle.rules.specs.Routines.{startAround}

@@ -1,4 +1,4 @@
--- `clauses::text` meets its contract: the walk beside its rule. Assumes nothing.
+-- `text` meets its contract: the walk beside its rule. Assumes nothing.
 use mathlib.Core.Path.{refl}
 use mathlib.Core.List.{List, [], _∷_}
 use Prim.Native.Nat.{ℕ}

@@ -1,4 +1,4 @@
--- `clauses::text_components` meets its contract: the loop eats while the next token goes on a text. Assumes nothing.
+-- `text_components` meets its contract: the loop eats while the next token goes on a text. Assumes nothing.
 use mathlib.Core.Path.{_∙_}
 use borrow.Author.Needs.{needs}
 use Rattle.rules.specs.Cursor.{left}

@@ -1,4 +1,4 @@
--- `skipped::drop_next` meets its contract: the row is what `drop_token` wrote. Assumes nothing.
+-- `drop_next` meets its contract: the row is what `drop_token` wrote. Assumes nothing.
 use mathlib.Core.Path.{_≡_, ap}
 use Prim.Native.Nat.{_+_}
 use native.Mathlib.Omega.{arith}

@@ -1,4 +1,4 @@
--- `skipped::eat_body_of_ifs` meets its contract: the loop eats what is of the body, and then there is nothing or the \fi. Assumes nothing.
+-- `eat_body_of_ifs` meets its contract: the loop eats what is of the body, and then there is nothing or the \fi. Assumes nothing.
 use mathlib.Core.Path.{_≡_, sym, _∙_}
 use mathlib.Core.List.{List}
 use Prim.Native.Nat.{ℕ}

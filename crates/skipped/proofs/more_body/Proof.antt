@@ -1,4 +1,4 @@
--- `skipped::more_body` meets its contract: by what `peek` told. Assumes nothing.
+-- `more_body` meets its contract: by what `peek` told. Assumes nothing.
 use mathlib.Core.Path.{_≡_, sym, _∙_}
 use mathlib.Core.Bool.{not}
 use Prim.Native.Nat.{ℕ}

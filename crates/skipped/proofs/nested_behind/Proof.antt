@@ -1,4 +1,4 @@
--- `skipped::nested_behind` meets its contract: its tests are the rule's, and a \fi that is of the body is nested. Assumes nothing.
+-- `nested_behind` meets its contract: its tests are the rule's, and a \fi that is of the body is nested. Assumes nothing.
 use mathlib.Core.Path.{_≡_, sym}
 use mathlib.Core.Bool.{true, not}
 use Prim.Native.Nat.{ℕ, zero, suc, _≤_}

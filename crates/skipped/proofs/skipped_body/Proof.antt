@@ -1,4 +1,4 @@
--- `skipped::skipped_body` meets its contract: the walk beside its rule, in which the opener's row is written into the other buffer. Assumes nothing.
+-- `skipped_body` meets its contract: the walk beside its rule, in which the opener's row is written into the other buffer. Assumes nothing.
 use mathlib.Core.Path.{refl}
 use mathlib.Core.List.{List, [], _∷_}
 use Prim.Native.Nat.{ℕ, _<_}
