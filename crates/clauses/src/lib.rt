@@ -1,9 +1,6 @@
-// Items with no item inside, and parts of items that have one: texts, delimiters, the ends of environments and bodies, commands that wrap.
+// Items with no item inside, and parts of items that have one: texts, delimiters, ends, an argument's node, commands that wrap.
 mod argument;
 
-pub use argument::begin_argument;
-pub use argument::character;
-pub use argument::end_argument;
 ghost use mathlib.Core.Path.{_≡_};
 ghost use Rattle.rules.specs.Flat.{flat};
 ghost use Rattle.rules.specs.Cursor.{peek};
@@ -14,6 +11,9 @@ ghost use Rattle.rules.specs.Routines as spec;
 ghost use Rattle.builder.specs.Contract.{Fits, Within};
 ghost use Rattle.state.specs.Stands.{keptOf, optionOf};
 ghost use Rattle.state.specs.Contract.{Grows, MarkOk, Somehow, Starts, Texts, There, Tokens};
+pub use argument::begin_argument;
+pub use argument::character;
+pub use argument::end_argument;
 use items::is_command_name;
 use lexer::Peeked;
 use routines::eat;

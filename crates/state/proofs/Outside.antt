@@ -62,6 +62,10 @@ abbrev pub Alone : (Tables → Type 0) → RuleOf → (Tables → List Rule) →
 Alone sees rule plan p tree count gain lift r after =
     (notes : List ℕ) → Turned sees rule (λ t. drop count (plan t)) gain lift p (buffers tree notes) r (buffers after notes)
 
+-- and where it is lent both
+abbrev pub Both : (Tables → Type 0) → RuleOf → (Tables → List Rule) → Parser → Buffers → ℕ → ℕ → ℕ → Step → List ℕ → List ℕ → Type 0
+Both sees rule plan p m count gain lift r tree dropped = Turned sees rule (λ t. drop count (plan t)) gain lift p m r (buffers tree dropped)
+
 module _ {sees : Tables → Type 0} {rule : RuleOf} {rest : Tables → List Rule} {p : Parser} {m : Buffers} where
   -- the first call begins a node
   pub node-begins : {f : Tables → Rule} {r : Step} {x : Buffers}

@@ -12,6 +12,7 @@ use Rattle.clauses.proofs.end_clause.Tie as tie
 mod At
 use At.*
 
+-- what is read where the kind is next
 abbrev read : RuleOf
 read s n = spec.oneIn (flat n) s ItemEnd
 

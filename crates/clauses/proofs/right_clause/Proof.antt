@@ -11,6 +11,7 @@ use Rattle.clauses.proofs.right_clause.Tie as tie
 mod At
 use At.*
 
+-- what is read where the kind is next
 abbrev read : RuleOf
 read s n = spec.clauseLr (flat n) s
 

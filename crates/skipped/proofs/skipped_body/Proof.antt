@@ -2,7 +2,6 @@
 use mathlib.Core.Path.{refl}
 use mathlib.Core.List.{List, [], _∷_}
 use Prim.Native.Nat.{ℕ, _<_}
-use lib.ListN.{drop}
 use borrow.Author.Needs.{needs}
 use Rattle.rules.specs.Checks.{Tables, sourceOf}
 use Rattle.rules.specs.Flat.{flat, reasonOpener}
@@ -14,7 +13,7 @@ use Rattle.state.specs.Stands.{Buffers}
 use Rattle.state.specs.declared.Step.{Step}
 use Rattle.state.specs.declared.Step.the-variants.{Went}
 use Rattle.skipped.proofs.Dropping.{row-free, drops}
-use Rattle.state.proofs.Outside.{Turned, node-around, node-begins, then-ran, then-ends, still-there, known-somehow, refuses, ready-behind, open-behind, long-behind, ends-with}
+use Rattle.state.proofs.Outside.{Both, node-around, node-begins, then-ran, then-ends, still-there, known-somehow, refuses, ready-behind, open-behind, long-behind, ends-with}
 use Rattle.skipped.proofs.Skipping.{skipping}
 use Rattle.state.proofs.Turn.{calls, starts, finishes}
 use Rattle.state.proofs.Walk.{Rule, line}
@@ -33,13 +32,11 @@ plan b t =
     ((λ n d. spec.dropNext (flat n) (sourceOf t) reasonOpener) ∷ (λ n d. skipping (sourceOf t) n) ∷ [])
 
 -- how a call ended: so many steps are done if it went
-abbrev So : tie.Start → ℕ → ℕ → ℕ → Step → List ℕ → List ℕ → Type 0
-So b count gain lift r tree dropped =
-    Turned (Tokens (b .args .tokens)) (λ s n. spec.skippedBody (flat n) s (b .args .kind)) (λ t. drop count (plan b t)) gain lift
-    (b .args .p) (Given b) r (buffers tree dropped)
+abbrev Turned : tie.Start → ℕ → ℕ → ℕ → Step → List ℕ → List ℕ → Type 0
+Turned b = Both (Tokens (b .args .tokens)) (λ s n. spec.skippedBody (flat n) s (b .args .kind)) (plan b) (b .args .p) (Given b)
 
 started : (c : tie.After-start-node)
-    → So (start-node→entry c) 1 0 1 (c .start-node .result) (c .start-node .last .1 .0) (start-node→entry c .args .dropped .now)
+    → Turned (start-node→entry c) 1 0 1 (c .start-node .result) (c .start-node .last .1 .0) (start-node→entry c .args .dropped .now)
 unfolding spec.skippedBody steps line
 started c = node-begins (λ t n d. refl) (λ t. starts refl (c .start-node .ensures)) (c .start-node .kept .1 .0) refl
 
@@ -51,7 +48,7 @@ still c t seen =
 
 -- the opener is dropped, which can't be refused
 opener : (c : tie.After-drop-next)
-    → So (drop-next→entry c) 2 1 1 (Went (c .drop-next .result)) (drop-next→start-node c .start-node .last .1 .0) (c .drop-next .last .0)
+    → Turned (drop-next→entry c) 2 1 1 (Went (c .drop-next .result)) (drop-next→start-node c .start-node .last .1 .0) (c .drop-next .last .0)
 opener c = record {
   turn = λ t seen ready.
       calls (started (drop-next→start-node c) .turn t seen ready .went (drop-next→opened c .opened .given .1))
@@ -59,13 +56,13 @@ opener c = record {
 }
 
 skipped : (c : tie.After-eat-body-of-ifs)
-    → So (eat-body-of-ifs→entry c) 3 1 1 (c .eat-body-of-ifs .result) (c .eat-body-of-ifs .last .1 .0) (c .eat-body-of-ifs .last .1 .1 .0)
+    → Turned (eat-body-of-ifs→entry c) 3 1 1 (c .eat-body-of-ifs .result) (c .eat-body-of-ifs .last .1 .0) (c .eat-body-of-ifs .last .1 .1 .0)
 skipped c =
     then-ran (c .eat-body-of-ifs .ensures) (opener (eat-body-of-ifs→drop-next c)) refl (c .eat-body-of-ifs .kept .1 .0)
     (c .eat-body-of-ifs .kept .1 .1 .0)
 
 ended : (c : tie.After-finish-node)
-    → So (finish-node→entry c) 4 1 0 (c .finish-node .result) (c .finish-node .last .1 .0)
+    → Turned (finish-node→entry c) 4 1 0 (c .finish-node .result) (c .finish-node .last .1 .0)
     (finish-node→eat-body-of-ifs c .eat-body-of-ifs .last .1 .1 .0)
 ended c =
     then-ends (λ t. finishes refl (finish-node→frame c .frame .ensures) (c .finish-node .ensures)) (skipped (finish-node→eat-body-of-ifs c))

@@ -2,7 +2,6 @@
 use mathlib.Core.Path.{_≡_, refl}
 use mathlib.Core.List.{List, [], _∷_}
 use Prim.Native.Nat.{ℕ}
-use lib.ListN.{drop}
 use borrow.Author.Needs.{needs}
 use Rattle.rules.specs.Checks.{Tables, sourceOf}
 use Rattle.rules.specs.Flat.{flat}
@@ -13,7 +12,7 @@ use Rattle.state.specs.Stands.{Buffers}
 use Rattle.state.specs.declared.Step.{Step}
 use Rattle.clauses.proofs.ArgumentNode.{framed, word-still, left-still}
 use Rattle.routines.proofs.HeldLaws.{droppable}
-use Rattle.state.proofs.Outside.{Turned, node-begins, then-ran, then-ends, ran-seeing, begun-there, refuses, ready-behind, open-behind, long-behind, ends-with}
+use Rattle.state.proofs.Outside.{Both, node-begins, then-ran, then-ends, ran-seeing, begun-there, refuses, ready-behind, open-behind, long-behind, ends-with}
 use Rattle.state.proofs.Turn.{begins-in}
 use Rattle.state.proofs.Walk.{Rule, line, closes}
 use Rattle.clauses.proofs.argument.character.Statement.{statement}
@@ -36,13 +35,11 @@ plan b t =
     ∷ []
 
 -- how a call ended: so many steps are done if it went
-abbrev So : tie.Start → ℕ → ℕ → ℕ → Step → List ℕ → List ℕ → Type 0
-So b count gain lift r tree dropped =
-    Turned (Sees b) (λ s n. spec.argumentNode (flat n) s (spec.singleChar (flat n) s)) (λ t. drop count (plan b t)) gain lift
-    (b .args .p) (Given b) r (buffers tree dropped)
+abbrev Turned : tie.Start → ℕ → ℕ → ℕ → Step → List ℕ → List ℕ → Type 0
+Turned b = Both (Sees b) (λ s n. spec.argumentNode (flat n) s (spec.singleChar (flat n) s)) (plan b) (b .args .p) (Given b)
 
 begun : (c : tie.After-begin-argument)
-    → So (begin-argument→entry c) 1 0 1 (c .begin-argument .result) (c .begin-argument .last .0) (c .begin-argument .last .1 .0)
+    → Turned (begin-argument→entry c) 1 0 1 (c .begin-argument .result) (c .begin-argument .last .0) (c .begin-argument .last .1 .0)
 unfolding spec.argumentNode steps line
 begun c = node-begins (λ t n d. refl) (λ t. begins-in (c .begin-argument .ensures)) (c .begin-argument .kept .0) (c .begin-argument .kept .1 .0)
 
@@ -51,7 +48,7 @@ still : (c : tie.After-opened) → c .opened .given .0 .0 .lexer ≡ opened→en
 still c = begun-there (opened→entry c .pre .2 .ready) (opened→begin-argument c .begin-argument .ensures) (c .opened .given .1)
 
 taken : (c : tie.After-single-char)
-    → So (single-char→entry c) 2 1 1 (c .single-char .result) (c .single-char .last .1 .0)
+    → Turned (single-char→entry c) 2 1 1 (c .single-char .result) (c .single-char .last .1 .0)
     (single-char→begin-argument c .begin-argument .last .1 .0)
 taken c =
     let given = single-char→entry c .args in
@@ -61,7 +58,7 @@ taken c =
     (begun (single-char→begin-argument c)) (single-char→opened c .opened .given .1) (c .single-char .kept .1 .0) refl
 
 ended : (c : tie.After-end-argument)
-    → So (end-argument→entry c) 3 1 0 (c .end-argument .result) (c .end-argument .last .0)
+    → Turned (end-argument→entry c) 3 1 0 (c .end-argument .result) (c .end-argument .last .0)
     (end-argument→begin-argument c .begin-argument .last .1 .0)
 ended c =
     then-ends (λ t. closes (framed (sourceOf t) (end-argument→frame c .frame .ensures) (c .end-argument .ensures (sourceOf t)) _))

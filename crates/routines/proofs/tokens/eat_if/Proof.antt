@@ -10,6 +10,7 @@ use Rattle.routines.proofs.tokens.eat_if.Tie as tie
 mod At
 use At.*
 
+-- what is read where the kind is next
 abbrev read : RuleOf
 read s n = spec.eat (flat n) s
 
