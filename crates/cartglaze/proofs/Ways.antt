@@ -13,10 +13,10 @@ use Rattle.checks.specs.Checked.{checkedOf}
 use Rattle.checks.specs.declared.order.Checked.{Checked}
 use Rattle.checks.specs.declared.order.Checked.the-variants as checked
 use Rattle.checks.proofs.Answers.{fine, sound}
-use Rattle.routines.specs.Stands.{outOf}
-use Rattle.routines.specs.declared.state.Parser.{Parser}
-use Rattle.routines.specs.declared.state.Step.{Step}
-use Rattle.routines.specs.declared.state.Step.the-variants as step
+use Rattle.state.specs.Stands.{outOf}
+use Rattle.state.specs.declared.Parser.{Parser}
+use Rattle.state.specs.declared.Step.{Step}
+use Rattle.state.specs.declared.Step.the-variants as step
 use Rattle.parser.specs.Member.{buffers}
 use Rattle.parser.specs.Root.{Readable, Written, Parsed}
 use Rattle.listings.specs.Stands.{ranOf}

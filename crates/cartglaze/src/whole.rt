@@ -8,7 +8,7 @@ use checks::Checked;
 use checks::check;
 use listings::Answer;
 use parser::parse;
-use routines::Step;
+use state::Step;
 
 // Text, tokens, shapes and states in; the tree's rows and the dropped rows into the lent buffers.
 // Refusals 1 to 4 write nothing, 5 to 8 leave zeros; behind the rows of an accepted run all is as it was.

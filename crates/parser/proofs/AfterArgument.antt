@@ -19,11 +19,11 @@ use Rattle.rules.specs.Reading as spec
 use Rattle.rules.specs.Routines.{argumentBegins, argumentEnds, argumentNode, ignoreHoldingTrivia, singleChar}
 use Rattle.rules.specs.SyntaxKind.{ClauseArgument, TokenWord}
 use Rattle.lexer.specs.Reading.{cursorOf}
-use Rattle.routines.specs.Stands.{Buffers, Here, posOf, outOf}
-use Rattle.routines.specs.Contract.{Ready, Holding, Runs}
-use Rattle.routines.specs.declared.state.Parser.{Parser}
-use Rattle.routines.specs.declared.state.Step.{Step}
-use Rattle.routines.specs.declared.state.Step.the-variants.{Went}
+use Rattle.state.specs.Stands.{Buffers, Here, posOf, outOf}
+use Rattle.state.specs.Contract.{Ready, Holding, Runs}
+use Rattle.state.specs.declared.Parser.{Parser}
+use Rattle.state.specs.declared.Step.{Step}
+use Rattle.state.specs.declared.Step.the-variants.{Went}
 use Rattle.parser.specs.Member.{innerAt}
 
 -- ---- where an outcome goes to

@@ -16,14 +16,14 @@ use Rattle.rules.specs.Routines.{holdTrivia}
 use Rattle.lexer.specs.Reading.{cursorOf}
 use Rattle.lexer.proofs.Laws.{left-some}
 use Rattle.syntax.specs.ParseScope.{scopeAt}
-use Rattle.routines.specs.Stands.{Buffers, posOf}
-use Rattle.routines.specs.Change.{relexed}
-use Rattle.routines.specs.Contract.{Ready, Left, Holding, Runs, leftOf}
-use Rattle.routines.specs.declared.state.Parser.{Parser}
-use Rattle.routines.specs.declared.state.Step.{Step}
-use Rattle.routines.specs.declared.state.Step.the-variants.{Went}
+use Rattle.state.specs.Stands.{Buffers, posOf}
+use Rattle.state.specs.Change.{relexed}
+use Rattle.state.specs.Contract.{Ready, Left, Holding, Runs, leftOf}
+use Rattle.state.specs.declared.Parser.{Parser}
+use Rattle.state.specs.declared.Step.{Step}
+use Rattle.state.specs.declared.Step.the-variants.{Went}
 use Rattle.routines.proofs.HeldLaws as held
-use Rattle.routines.proofs.Walk.{Rule, line, last-step, two-steps, Walk, begins, turns, passes, forgets, leaves, stops, arrives, Stopped}
+use Rattle.state.proofs.Walk.{Rule, line, last-step, two-steps, Walk, begins, turns, passes, forgets, leaves, stops, arrives, Stopped}
 use Rattle.parser.specs.Member.{Next, innerAt, allArguments}
 use Rattle.parser.proofs.Cycle.{runs}
 use Rattle.parser.proofs.AfterArgument.{holding-behind}

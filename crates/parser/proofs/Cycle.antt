@@ -7,16 +7,16 @@ use lib.ListN.{length, drop}
 use Rattle.rules.specs.Limits.{nodes}
 use Rattle.rules.specs.Outcome.{Out, went}
 use Rattle.rules.specs.Checks.{Tables, sourceOf}
-use Rattle.routines.specs.Stands.{Buffers, Here, posOf, outOf}
-use Rattle.routines.specs.Change.{relisted, remarked, unheld}
-use Rattle.routines.specs.Contract.{MarkOk, Ready, Left, Gone, Runs, Ran, RuleOf, weight, buffers}
-use Rattle.routines.specs.declared.state.ListState.{ListState}
-use Rattle.routines.specs.declared.state.KeptMark.{KeptMark}
-use Rattle.routines.specs.declared.state.Parser.{Parser}
-use Rattle.routines.specs.declared.state.Step.{Step}
-use Rattle.routines.specs.declared.state.Step.the-variants.{Went, Refused}
-use Rattle.routines.proofs.Turn.{Turn}
-use Rattle.routines.proofs.Walk.{Rule, line, Walk, Call, stays-home, weaker}
+use Rattle.state.specs.Stands.{Buffers, Here, posOf, outOf}
+use Rattle.state.specs.Change.{relisted, remarked, unheld}
+use Rattle.state.specs.Contract.{MarkOk, Ready, Left, Gone, Runs, Ran, RuleOf, weight, buffers}
+use Rattle.state.specs.declared.ListState.{ListState}
+use Rattle.state.specs.declared.KeptMark.{KeptMark}
+use Rattle.state.specs.declared.Parser.{Parser}
+use Rattle.state.specs.declared.Step.{Step}
+use Rattle.state.specs.declared.Step.the-variants.{Went, Refused}
+use Rattle.state.proofs.Turn.{Turn}
+use Rattle.state.proofs.Walk.{Rule, line, Walk, Call, stays-home, weaker}
 
 -- ---- calls
 

@@ -2,8 +2,8 @@
 use mathlib.Core.List.{List}
 use Prim.Native.Nat.{ℕ}
 use Rattle.rules.specs.Checks.{Tables}
-use Rattle.routines.specs.Contract.{Ready, Somehow}
-use Rattle.routines.specs.declared.state.Parser.{Parser}
+use Rattle.state.specs.Contract.{Ready, Somehow}
+use Rattle.state.specs.declared.Parser.{Parser}
 use Rattle.parser.specs.Member.{buffers}
 
 -- the tables and the dropped buffer are the member's own

@@ -13,19 +13,19 @@ use Rattle.rules.specs.Reading as spec
 use Rattle.syntax.proofs.Scopes.{numbered}
 use Rattle.syntax.specs.ParseScope.{numberOf, scopeOf}
 use Rattle.syntax.specs.declared.parse_scope.ParseScope.{ParseScope}
-use Rattle.routines.specs.Change.{relisted}
-use Rattle.routines.specs.Contract.{MarkOk, Ready, Runs}
-use Rattle.routines.specs.Stands.{Buffers, noMark, markOf, listOf, posOf, keptOf, markIn}
-use Rattle.routines.specs.declared.state.ListState.{ListState}
-use Rattle.routines.specs.declared.state.Parser.{Parser}
-use Rattle.routines.specs.declared.state.Step.{Step}
-use Rattle.routines.specs.declared.state.Step.the-variants.{Went}
-use Rattle.routines.proofs.Building.{mark-more}
-use Rattle.routines.proofs.Walk.{Rule, line, Walk, begins, passes, stops, arrives, Stopped}
+use Rattle.state.specs.Change.{relisted}
+use Rattle.state.specs.Contract.{MarkOk, Ready, Runs}
+use Rattle.state.specs.Stands.{Buffers, noMark, markOf, listOf, posOf, keptOf, markIn}
+use Rattle.state.specs.declared.ListState.{ListState}
+use Rattle.state.specs.declared.Parser.{Parser}
+use Rattle.state.specs.declared.Step.{Step}
+use Rattle.state.specs.declared.Step.the-variants.{Went}
+use Rattle.state.proofs.Building.{mark-more}
+use Rattle.state.proofs.Walk.{Rule, line, Walk, begins, passes, stops, arrives, Stopped}
 use Rattle.parser.specs.Member.{NextIf, markHere, gainOf, innerAt, itemsOf, insideOf, opened, closed}
 use Rattle.parser.specs.declared.lists.Extent.{Extent}
 use Rattle.parser.specs.declared.lists.Extent.the-variants.{List as Scoped, Greedy, Item as OneItem}
-use Rattle.routines.proofs.Marks.{no-mark, taken-ok, kept-again}
+use Rattle.state.proofs.Marks.{no-mark, taken-ok, kept-again}
 use Rattle.parser.proofs.ItemLoop.{body}
 use Rattle.parser.proofs.Cycle.{runs, relists}
 use Rattle.parser.proofs.Marks.{mark-here, is-mark}

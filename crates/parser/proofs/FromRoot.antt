@@ -15,14 +15,14 @@ use Rattle.rules.specs.Reading as spec
 use Rattle.rules.specs.Scope as scopes
 use Rattle.rules.specs.SyntaxKind as kinds
 use Rattle.lexer.proofs.Laws.{start-fine}
-use Rattle.routines.specs.Contract.{Steady, Begun, Ended, Opens}
-use Rattle.routines.specs.Stands.{Buffers, Here, posOf, outOf}
-use Rattle.routines.specs.declared.state.Parser.{Parser}
-use Rattle.routines.specs.declared.state.Step.{Step}
-use Rattle.routines.specs.declared.state.Step.the-variants.{Went, Refused}
-use Rattle.routines.proofs.Walk.{Rule, line, Walk, Call, Stopped, stop, stopped, gone-map, passed-then, steps-on, stops-is, leaves}
+use Rattle.state.specs.Contract.{Steady, Begun, Ended, Opens}
+use Rattle.state.specs.Stands.{Buffers, Here, posOf, outOf}
+use Rattle.state.specs.declared.Parser.{Parser}
+use Rattle.state.specs.declared.Step.{Step}
+use Rattle.state.specs.declared.Step.the-variants.{Went, Refused}
+use Rattle.state.proofs.Walk.{Rule, line, Walk, Call, Stopped, stop, stopped, gone-map, passed-then, steps-on, stops-is, leaves}
 use Rattle.parser.specs.Member.{innerAt}
-use Rattle.routines.proofs.Marks.{no-mark}
+use Rattle.state.proofs.Marks.{no-mark}
 use Rattle.parser.specs.Root.{atRoot, Readable, Written, Parsed}
 
 -- the rule, as its steps

@@ -16,15 +16,15 @@ use Rattle.lexer.specs.Reading.{cursorOf}
 use Rattle.lexer.proofs.Laws.{left-some}
 use Rattle.syntax.specs.ParseScope.{scopeAt}
 use lib.ListN.{length}
-use Rattle.routines.specs.Stands.{Buffers, Here, posOf}
-use Rattle.routines.specs.Change.{remarked}
-use Rattle.routines.specs.Contract.{MarkOk, Ready, Left, Runs, leftOf}
-use Rattle.routines.specs.declared.state.Parser.{Parser}
-use Rattle.routines.specs.declared.state.Step.{Step}
-use Rattle.routines.specs.declared.state.Step.the-variants.{Went}
-use Rattle.routines.proofs.Building.{mark-more}
+use Rattle.state.specs.Stands.{Buffers, Here, posOf}
+use Rattle.state.specs.Change.{remarked}
+use Rattle.state.specs.Contract.{MarkOk, Ready, Left, Runs, leftOf}
+use Rattle.state.specs.declared.Parser.{Parser}
+use Rattle.state.specs.declared.Step.{Step}
+use Rattle.state.specs.declared.Step.the-variants.{Went}
+use Rattle.state.proofs.Building.{mark-more}
 use Rattle.routines.proofs.Eating.{asked-there}
-use Rattle.routines.proofs.Walk.{Rule, line, last-step, Walk, begins, turns, passes, forgets, leaves, stops, arrives, Stopped}
+use Rattle.state.proofs.Walk.{Rule, line, last-step, Walk, begins, turns, passes, forgets, leaves, stops, arrives, Stopped}
 use Rattle.parser.specs.Member.{Next, NextIf, LastAfter, Behind, markHere, goesOn, stopsOf, more as moreOf, gainOf, innerAt, listItems, itemsOf}
 use Rattle.parser.specs.declared.lists.Extent.{Extent}
 use Rattle.parser.specs.declared.lists.Extent.the-variants.{List as Scoped, Greedy, Item as OneItem}

@@ -6,8 +6,8 @@ use Rattle.rules.specs.Flat.{flat}
 use Rattle.rules.specs.Position as position
 use Rattle.rules.specs.Reading.{itemList}
 use Rattle.rules.specs.Scope.{Scope}
-use Rattle.routines.specs.declared.state.Parser.{Parser}
-use Rattle.routines.proofs.Walk.{Rule}
+use Rattle.state.specs.declared.Parser.{Parser}
+use Rattle.state.proofs.Walk.{Rule}
 use Rattle.parser.specs.Member.{innerAt}
 
 -- its rule's steps from p on: what opens the list is read, the list, and what closes it

@@ -12,11 +12,11 @@ use Rattle.rules.specs.Items.{attachable}
 use Rattle.rules.specs.Tables.{kindAt}
 use Rattle.items.specs.Items.{shapeFor}
 use Rattle.items.specs.declared.shape.Shape.{Shape}
-use Rattle.routines.specs.Change.{remarked}
-use Rattle.routines.specs.Contract.{MarkOk, Ready}
-use Rattle.routines.specs.Stands.{Buffers}
-use Rattle.routines.specs.declared.state.KeptMark.{KeptMark}
-use Rattle.routines.specs.declared.state.Parser.{Parser}
+use Rattle.state.specs.Change.{remarked}
+use Rattle.state.specs.Contract.{MarkOk, Ready}
+use Rattle.state.specs.Stands.{Buffers}
+use Rattle.state.specs.declared.KeptMark.{KeptMark}
+use Rattle.state.specs.declared.Parser.{Parser}
 use Rattle.parser.specs.Member.{LastAfter, markHere, tables}
 
 -- a mark that is made here

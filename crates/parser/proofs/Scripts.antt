@@ -23,7 +23,7 @@ use Rattle.rules.specs.Token.{Word}
 use Rattle.rules.proofs.Characters.{either}
 use Rattle.lexer.proofs.Laws.{peek-some}
 use Rattle.routines.proofs.Eating.{asked-there}
-use Rattle.routines.specs.Contract.{isWord}
+use Rattle.state.specs.Contract.{isWord}
 
 pub word-there : (tokens : List ℕ) (c : Cursor) → asked isWord (peek tokens c) ≡ true
     → (c .token < tokenCount tokens) × (kindAt tokens (c .token) ≡ Word)

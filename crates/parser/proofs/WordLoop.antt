@@ -20,12 +20,12 @@ use Rattle.rules.specs.Token.{Word}
 use Rattle.lexer.specs.Reading.{cursorOf}
 use Rattle.lexer.proofs.Laws.{peek-some, rest-length, consumed-part, further}
 use Rattle.syntax.specs.ParseScope.{scopeAt}
-use Rattle.routines.specs.Stands.{Buffers, posOf}
-use Rattle.routines.specs.Contract.{Ready, Known, Ran, Runs, leftOf}
-use Rattle.routines.specs.declared.state.Parser.{Parser}
-use Rattle.routines.specs.declared.state.Step.{Step}
-use Rattle.routines.specs.declared.state.Step.the-variants.{Went}
-use Rattle.routines.proofs.Walk.{Stopped}
+use Rattle.state.specs.Stands.{Buffers, posOf}
+use Rattle.state.specs.Contract.{Ready, Known, Ran, Runs, leftOf}
+use Rattle.state.specs.declared.Parser.{Parser}
+use Rattle.state.specs.declared.Step.{Step}
+use Rattle.state.specs.declared.Step.the-variants.{Went}
+use Rattle.state.proofs.Walk.{Stopped}
 use Rattle.parser.specs.Member.{Next, innerAt, allArguments}
 use Rattle.parser.proofs.Choices.{choose-word}
 use Rattle.parser.proofs.Cycle.{runs-as, ran-runs}

@@ -17,16 +17,16 @@ use Rattle.rules.specs.Reading.{content, contentAt, items, itemList, lastAfter,
 use Rattle.rules.specs.Routines.{turns}
 use Rattle.rules.specs.Scope.{Scope, stops}
 use Rattle.rules.specs.Tables.{tokenCount, shapeAt}
-use Rattle.routines.specs.Stands.{Buffers, Here, posOf, markAt, keptOf, markIn, noMark}
-use Rattle.routines.specs.Change.{relisted, remarked}
-use Rattle.routines.specs.Contract.{Runs, Slice, Moments}
-pub use Rattle.routines.specs.Contract.{buffers, lent}
-use Rattle.routines.specs.declared.state.KeptMark.{KeptMark}
+use Rattle.state.specs.Stands.{Buffers, Here, posOf, markAt, keptOf, markIn, noMark}
+use Rattle.state.specs.Change.{relisted, remarked}
+use Rattle.state.specs.Contract.{Runs, Slice, Moments}
+pub use Rattle.state.specs.Contract.{buffers, lent}
+use Rattle.state.specs.declared.KeptMark.{KeptMark}
 use Rattle.syntax.specs.ParseScope.{numberOf, scopeOf}
 use Rattle.parser.specs.declared.lists.Extent.{Extent}
 use Rattle.parser.specs.declared.lists.Extent.the-variants.{List as Scoped, Greedy, Item as OneItem}
-use Rattle.routines.specs.declared.state.Parser.{Parser}
-use Rattle.routines.specs.declared.state.Step.{Step}
+use Rattle.state.specs.declared.Parser.{Parser}
+use Rattle.state.specs.declared.Step.{Step}
 
 abbrev pub tables : List ℕ → List ℕ → List ℕ → List ℕ → Tables
 tables text tokens shapes states = record { text = text; tokens = tokens; shapes = shapes; states = states }

@@ -9,10 +9,10 @@ use Rattle.rules.specs.Limits.{treeWidth, droppedWidth}
 use Rattle.rules.specs.Reading.{parse}
 use Rattle.rules.specs.Tables.{tokenCount}
 use Rattle.syntax.specs.declared.parse_scope.ParseScope.the-variants.{Root}
-use Rattle.routines.specs.Contract.{Good, Gone}
-use Rattle.routines.specs.Stands.{Buffers, listAt, outOf}
-use Rattle.routines.specs.declared.state.Parser.{Parser}
-use Rattle.routines.specs.declared.state.Step.{Step}
+use Rattle.state.specs.Contract.{Good, Gone}
+use Rattle.state.specs.Stands.{Buffers, listAt, outOf}
+use Rattle.state.specs.declared.Parser.{Parser}
+use Rattle.state.specs.declared.Step.{Step}
 
 -- before the first token: nothing is held, marked, built or dropped
 abbrev pub atRoot : Parser

@@ -9,13 +9,21 @@ ghost use Rattle.rules.specs.Items.{classCommand};
 ghost use Rattle.rules.specs.Reading as spec;
 ghost use Rattle.arg_match.specs.Answers.{matcherOf};
 ghost use Rattle.items.specs.Items.{shapeFor, pieceFor};
-ghost use Rattle.routines.specs.Contract.{MarkOk, Ready, Holding};
-ghost use Rattle.routines.specs.Stands.{keptOf, optionOf};
+ghost use Rattle.state.specs.Contract.{MarkOk, Ready, Holding};
+ghost use Rattle.state.specs.Stands.{keptOf, optionOf};
 ghost use Rattle.syntax.specs.ParseScope.{scopeOf};
 ghost use Rattle.parser.specs.Member.{given, lent, Opened, Stayed, Next, NextIf, gainOf, itemsOf, insideOf, allArguments, shapeIn};
 use arg_match::ArgMatcher;
 use arg_match::Argument;
 use arg_match::Tried;
+use clauses::begin_argument;
+use clauses::character;
+use clauses::clause_lr;
+use clauses::end_argument;
+use clauses::end_clause;
+use clauses::left1_command;
+use clauses::right_clause;
+use clauses::start_around;
 use items::Choice;
 use items::Item;
 use items::Piece;
@@ -34,26 +42,18 @@ use lists::closed;
 use lists::more_items;
 use lists::opened;
 pub use root::parse;
-use routines::Mark;
-use routines::Parser;
-use routines::Step;
-use routines::begin_argument;
-use routines::character;
-use routines::clause_lr;
 use routines::eat;
 use routines::eat_if;
-use routines::end_argument;
-use routines::end_clause;
 use routines::extract_holding_trivia;
 use routines::hold_trivia;
-use routines::left1_command;
 use routines::one_in;
-use routines::right_clause;
-use routines::skipped_body;
-use routines::start_around;
 use routines::trivia;
 use routines::word_character;
 use routines::word_next;
+use skipped::skipped_body;
+use state::Mark;
+use state::Parser;
+use state::Step;
 use syntax::Class;
 use syntax::Form;
 use syntax::Limits;
@@ -643,7 +643,7 @@ fn content(
     match item {
         Item::Plain => eat(tokens, tree, p),
         Item::Error => one_in(tokens, tree, p, SyntaxKind::TOKEN_ERROR),
-        Item::Word | Item::Comma => routines::text(tokens, tree, p),
+        Item::Word | Item::Comma => clauses::text(tokens, tree, p),
         Item::Group(scope) => {
             // Only for speed: see above.
             let at = p;

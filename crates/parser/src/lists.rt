@@ -11,8 +11,8 @@ use items::greedy_stops;
 use lexer::Column;
 use lexer::Peeked;
 use lexer::cell;
-use routines::Mark;
-use routines::Parser;
+use state::Mark;
+use state::Parser;
 use syntax::ParseScope;
 
 // How far is read: a new list of a scope, all that a greedy command takes, or one item. All three go through one loop, only for speed: see `items`.

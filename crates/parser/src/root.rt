@@ -6,9 +6,9 @@ use crate::inside;
 use crate::lists::Extent;
 use builder::GreenNodeBuilder;
 use lexer::Lexer;
-use routines::ListState;
-use routines::Parser;
-use routines::Step;
+use state::ListState;
+use state::Parser;
+use state::Step;
 use syntax::ParseScope;
 use syntax::SyntaxKind;
 

@@ -15,53 +15,19 @@ use Rattle.rules.specs.Position as position
 use Rattle.rules.specs.Position.{Source}
 use Rattle.rules.specs.Routines.{holdTrivia, dropFrom, ignoreHoldingTrivia, leavesFrom, extractHoldingTrivia}
 use Rattle.rules.specs.Tables.{tokenCount, kindAt, startAt, lengthAt}
-use Rattle.lexer.specs.Fine.{Fine}
-use Rattle.lexer.specs.Reading.{cursorOf}
 use Rattle.lexer.specs.declared.cursor.Lexer.{Lexer}
 use Rattle.lexer.proofs.Laws.{eaten-fine, left-eaten}
 use Rattle.builder.specs.Contract.{Fits}
 use Rattle.builder.specs.Stands.{rowsOf}
 use Rattle.builder.proofs.Numbers.{one-more, the-rest}
-use Rattle.routines.specs.Stands.{Buffers, Here, posOf, outOf}
-use Rattle.routines.specs.Change.{relexed, unheld}
-use Rattle.routines.specs.Contract.{Ready, Passed, Left, Leafed, Told, Ran, Somehow, Holding, Droppable, Ignored, buffers}
-use Rattle.routines.specs.declared.state.Parser.{Parser}
-use Rattle.routines.specs.declared.state.Step.{Step}
-use Rattle.routines.specs.declared.state.Step.the-variants.{Went}
-use Rattle.routines.proofs.Building.{mark-more}
-use Rattle.routines.proofs.Walk.{Call, Stopped, stop, stopped, drop-more}
-
--- the list, and the node that is open, are as they were
-module _ {t : Tables} {gain : ℕ} {p : Parser} {m : Buffers} {q : Parser} {v : Buffers} (ready : Ready t p m) (passed : Passed t gain p m q v) where
-  remains : Fine (t .text) (t .tokens) (cursorOf (q .lexer)) → q .lexer .token ≤ tokenCount (t .tokens) → q .dropped ≤ q .lexer .token
-      → Fits (q .builder) (v .tree)
-      → q .builder .depth ≡ p .builder .depth → q .builder .first ≡ p .builder .first → q .builder .node ≡ p .builder .node → q .list ≡ p .list
-      → Left t gain p m q v
-  remains fine inside few fits depth first node list =
-      let s = ready .steady in
-      let within = ready .within in
-      let rows = passed .rows in
-      record {
-        passed = passed;
-        ready = record {
-          steady = record {
-            good = s .good;
-            fine = fine;
-            token = inside;
-            fits = fits;
-            start = rw list (mark-more (p .list .start) (p .builder) (q .builder) rows (s .start));
-            last = rw list (mark-more (p .list .last) (p .builder) (q .builder) rows (s .last));
-            dropped = few;
-            notes = let room = s .notes in let long = passed .notes-long in omega arith;
-            light = let bound = s .light in let lighter = passed .light in omega arith;
-          };
-          within = record { depth = omega arith; first = omega arith; node = omega arith };
-        };
-        depth = depth;
-        first = first;
-        node = node;
-        scope = ap (λ l. l .scope) list;
-      }
+use Rattle.state.specs.Stands.{Buffers, Here, posOf, outOf}
+use Rattle.state.specs.Change.{relexed, unheld}
+use Rattle.state.specs.Contract.{Ready, Left, Leafed, Told, Ran, Somehow, Holding, Droppable, Ignored, buffers}
+use Rattle.state.specs.declared.Parser.{Parser}
+use Rattle.state.specs.declared.Step.{Step}
+use Rattle.state.specs.declared.Step.the-variants.{Went}
+use Rattle.state.proofs.Left.{remains}
+use Rattle.state.proofs.Walk.{Call, Stopped, stop, stopped, drop-more, passing}
 
 -- ---- a token is held
 
@@ -75,17 +41,7 @@ holds there e = rw e (record {
       let s = ready .steady in
       let less = left-eaten (s .fine) there in
       let few = s .dropped in
-      remains ready (record {
-        tree = refl;
-        notes = refl;
-        tree-long = refl;
-        notes-long = refl;
-        rows = omega arith;
-        dropped = omega arith;
-        token = omega arith;
-        read = omega arith;
-        light = omega arith;
-      })
+      remains ready (passing refl refl refl refl (omega arith))
       (eaten-fine (s .fine)) (omega arith) (omega arith) (s .fits) refl refl refl refl;
 })
 
@@ -104,17 +60,7 @@ lets-go : {t : Tables} {p : Parser} {tree before after : List ℕ} (count : ℕ)
     → Ready t p (buffers tree before) → Left t 0 p (buffers tree before) (let-go p count) (buffers tree after)
 lets-go count more few rest long ready =
     let s = ready .steady in
-    remains ready (record {
-      tree = refl;
-      notes = rest;
-      tree-long = refl;
-      notes-long = long;
-      rows = omega arith;
-      dropped = more;
-      token = omega arith;
-      read = omega arith;
-      light = omega arith;
-    })
+    remains ready (passing refl rest refl long (omega arith))
     (s .fine) (s .token) few (s .fits) refl refl refl refl
 
 pub holding-none : {t : Tables} {p : Parser} {m : Buffers} → Ready t p m → Holding (unheld p)
@@ -357,17 +303,7 @@ module _ (tokens : List ℕ) (p : Parser) (tree : List ℕ) where
           let few = s .dropped in
           record {
             is = extracted end t notes seen;
-            gone = remains ready (record {
-              tree = far .rest;
-              notes = refl;
-              tree-long = far .long;
-              notes-long = refl;
-              rows = rows;
-              dropped = omega arith;
-              token = omega arith;
-              read = rw lexer (omega arith);
-              light = rw lexer (omega arith);
-            })
+            gone = remains ready (passing (far .rest) refl (far .long) refl (rw lexer (omega arith)))
                 (rw lexer (s .fine)) (rw lexer (s .token)) (omega arith) (far .fits) (far .depth) (far .first) (far .node) (far .list);
           };
     })

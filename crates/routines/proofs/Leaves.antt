@@ -21,14 +21,14 @@ use Rattle.lexer.specs.Fine as row
 use Rattle.lexer.proofs.Laws.{here, eaten-fine, left-eaten, le-or-lt, consumed-all, consumed-part, char-fine, char-left}
 use mathlib.Core.Logic.{⊎-elim}
 use Rattle.lexer.specs.declared.cursor.Lexer.{Lexer}
-use Rattle.routines.specs.Stands.{Buffers, Here, posOf, outOf}
-use Rattle.routines.specs.Change.{relexed}
-use Rattle.routines.specs.Contract.{Ready, Left, Leafed, Told, Somehow}
-use Rattle.routines.specs.declared.state.Parser.{Parser}
-use Rattle.routines.specs.declared.state.Step.{Step}
-use Rattle.routines.specs.declared.state.Step.the-variants.{Went}
-use Rattle.routines.proofs.Building.{mark-more}
-use Rattle.routines.proofs.Walk.{Stopped, stop, stopped}
+use Rattle.state.specs.Stands.{Buffers, Here, posOf, outOf}
+use Rattle.state.specs.Change.{relexed}
+use Rattle.state.specs.Contract.{Ready, Left, Leafed, Told, Ran, RuleOf, Somehow, buffers}
+use Rattle.state.specs.declared.Parser.{Parser}
+use Rattle.state.specs.declared.Step.{Step}
+use Rattle.state.specs.declared.Step.the-variants.{Went}
+use Rattle.state.proofs.Left.{remains}
+use Rattle.state.proofs.Walk.{Stopped, stop, stopped, passing}
 
 -- a leaf, and then the cursor stands elsewhere
 abbrev pub leaf-then : Leaf → (Cursor → Cursor) → ℕ → Here → Out Here
@@ -42,76 +42,51 @@ pub record Onward (t : Tables) (p : Parser) (to : Cursor) : Type 0 where
   pub inside : to .token ≤ tokenCount (t .tokens)
   pub less : left (t .tokens) to < left (t .tokens) (cursorOf (p .lexer))
 
-module _ (t : Tables) (p : Parser) (tree after notes : List ℕ) (ready : Ready t p (record { tree = tree; dropped = notes })) where
-  abbrev before : Buffers
-  before = record { tree = tree; dropped = notes }
+-- the leaf was written, and the cursor moved
+moved : (t : Tables) (p : Parser) (tree after notes : List ℕ) → Ready t p (buffers tree notes) → (q : Parser) (l : Lexer) → Leafed p tree q after
+    → length after ≡ length tree → Onward t p (cursorOf l)
+    → Left t 1 p (buffers tree notes) (relexed q l) (buffers after notes)
+moved t p tree after notes ready q l w long on =
+    let token = on .token in
+    let few = ready .steady .dropped in
+    let rows = w .rows in
+    let leaves = w .leaves in
+    let less = on .less in
+    let near = on .near in
+    let held = w .held in
+    let dropped = w .dropped in
+    remains ready (passing (w .rest) refl long refl (omega arith)) (on .fine) (on .inside) (omega arith) (w .fits) (w .depth) (w .first) (w .node)
+    (w .list)
 
-  abbrev behind : Buffers
-  behind = record { tree = after; dropped = notes }
+-- a routine whose rule is such a leaf and such a step, for all tables that agree
+module _ {sees : Tables → Type 0} {rule : RuleOf} {p : Parser} {tree after : List ℕ} (leaf : Leaf) (next : Cursor → Cursor)
+    (is : (t : Tables) → sees t → (notes : List ℕ) (n : ℕ)
+    → rule (sourceOf t) n (posOf p (buffers tree notes)) ≡ leaf-then leaf next n (posOf p (buffers tree notes)))
+    {r : Step}
+    (wrote : (notes : List ℕ)
+    → Told (λ n. position.leaf (flat n) leaf) (λ u. Leafed p tree u after) p (buffers tree notes) r (buffers after notes)) where
+  pub leaf-stops : {any : List ℕ} → Stopped r → (notes : List ℕ) → Ran sees 1 rule p (buffers tree notes) r (buffers any notes)
+  leaf-stops {any} st notes = record {
+    told = λ t seen ready. record {
+      is = is t seen notes (length tree) ∙ stop _ _ _ _ (buffers any notes) (wrote notes .is) st;
+      gone = stopped _ _ st;
+    };
+  }
 
-  -- the leaf was written, and the cursor moved
-  moved : (q : Parser) (l : Lexer) → Leafed p tree q after → length after ≡ length tree → Onward t p (cursorOf l)
-      → Left t 1 p before (relexed q l) behind
-  moved q l w long on =
-      let s = ready .steady in
-      let rows = w .rows in
-      let leaves = w .leaves in
-      let less = on .less in
-      let near = on .near in
-      let held = w .held in
-      let dropped = w .dropped in
-      let within = ready .within in
-      let first = w .first in
-      let node = w .node in
-      let depth = w .depth in
-      record {
-        passed = record {
-          tree = w .rest;
-          notes = refl;
-          tree-long = long;
-          notes-long = refl;
-          rows = omega arith;
-          dropped = omega arith;
-          token = on .token;
-          read = omega arith;
-          light = omega arith;
+  pub leaf-goes-on : {q z : Parser} (l : Lexer) → r ≡ Went q → z ≡ relexed q l → cursorOf l ≡ next (cursorOf (q .lexer)) → length after ≡ length tree
+      → ((t : Tables) (notes : List ℕ) → sees t → Ready t p (buffers tree notes) → Onward t p (cursorOf l))
+      → (notes : List ℕ) → Ran sees 1 rule p (buffers tree notes) (Went z) (buffers after notes)
+  leaf-goes-on {q} l e ez moves long on notes =
+      let to-went = ap (λ (y : Step). outOf y (buffers after notes)) e in
+      let at-went : position.leaf (flat (length tree)) leaf (posOf p (buffers tree notes)) ≡ went (posOf q (buffers after notes)) =
+      wrote notes .is ∙ to-went in
+      let w : Leafed p tree q after = rw e at (wrote notes .gone) in
+      rw ez (record {
+        told = λ t seen ready. record {
+          is = is t seen notes (length tree) ∙ rw (at-went, ← moves);
+          gone = moved t p tree after notes ready q l w long (on t notes seen ready);
         };
-        ready = record {
-          steady = record {
-            good = s .good;
-            fine = on .fine;
-            token = on .inside;
-            fits = w .fits;
-            start = rw (w .list) (mark-more (p .list .start) (p .builder) (q .builder) (omega arith) (s .start));
-            last = rw (w .list) (mark-more (p .list .last) (p .builder) (q .builder) (omega arith) (s .last));
-            dropped = let token = on .token in let few = s .dropped in omega arith;
-            notes = s .notes;
-            light = let bound = s .light in omega arith;
-          };
-          within = record { depth = omega arith; first = omega arith; node = omega arith };
-        };
-        depth = depth;
-        first = first;
-        node = node;
-        scope = ap (λ l. l .scope) (w .list);
-      }
-
-  -- the rule: a leaf, and then the cursor stands elsewhere
-  module _ (leaf : Leaf) (next : Cursor → Cursor) (rule : ℕ → Here → Out Here)
-      (is : (n : ℕ) → rule n (posOf p before) ≡ leaf-then leaf next n (posOf p before)) where
-    pub leaf-stops : {r : Step} {x : Buffers} {Q : Parser → Type 0} → Told (λ n. position.leaf (flat n) leaf) Q p before r behind → Stopped r
-        → Told rule (λ q. Left t 1 p before q x) p before r x
-    leaf-stops {x} k st = record { is = is (length tree) ∙ stop _ _ _ _ x (k .is) st; gone = stopped _ _ st }
-
-    pub leaf-goes-on : {r : Step} {q : Parser} {z : Parser} (l : Lexer)
-        → Told (λ n. position.leaf (flat n) leaf) (λ u. Leafed p tree u after) p before r behind → r ≡ Went q
-        → z ≡ relexed q l → cursorOf l ≡ next (cursorOf (q .lexer)) → length after ≡ length tree → Onward t p (cursorOf l)
-        → Told rule (λ u. Left t 1 p before u behind) p before (Went z) behind
-    leaf-goes-on {r} {q} l k e ez moves long on =
-        let to-went = ap (λ (y : Step). outOf y behind) e in
-        let went-is : position.leaf (flat (length tree)) leaf (posOf p before) ≡ went (posOf q behind) = k .is ∙ to-went in
-        let w : Leafed p tree q after = rw e at (k .gone) in
-        rw ez (record { is = is (length tree) ∙ rw (went-is, ← moves); gone = moved q l w long on })
+      })
 
 -- ---- the token that is next
 
@@ -121,6 +96,11 @@ pub here-of : {tokens tree : List ℕ} {p : Parser} → Somehow (λ t. t .tokens
 here-of {tokens} {p = p} s there =
     let fine : Fine (s .t .text) tokens (cursorOf (p .lexer)) = rw (s .seen) at (s .ready .steady .fine) in
     here fine there
+
+-- the cursor is fine in what the code was handed
+pub fine-of : {text tokens tree : List ℕ} {p : Parser} → Somehow (λ t. (t .text ≡ text) × (t .tokens ≡ tokens)) p tree
+    → Fine text tokens (cursorOf (p .lexer))
+fine-of s = rw (s .seen .0, s .seen .1) at (s .ready .steady .fine)
 
 -- there are few of them
 pub small-token : {tokens tree : List ℕ} {p : Parser} → Somehow (λ t. t .tokens ≡ tokens) p tree → p .lexer .token ≤ 16384

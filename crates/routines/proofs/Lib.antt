@@ -1,14 +1,6 @@
--- What the proofs of several functions use.
-pub mod Building
-pub mod Walk
+-- What the proofs of several functions use, here and in the crates that stand on this one.
 pub mod Asked
+pub mod ByNext
 pub mod Leaves
-pub mod Loop
 pub mod Eating
 pub mod HeldLaws
-pub mod Outside
-pub mod Dropping
-pub mod Skipping
-pub mod Turn
-pub mod ArgumentNode
-pub mod Marks

@@ -3,13 +3,13 @@ ghost use mathlib.Core.Path.{_≡_};
 ghost use Prim.Native.Nat.{_+_, _<_, _^_};
 ghost use Rattle.rules.specs.Flat.{flat};
 ghost use Rattle.rules.specs.Routines as spec;
-ghost use Rattle.routines.specs.Change.{relexed};
-ghost use Rattle.routines.specs.Contract.{Droppable, Grows, Ignored, Somehow, Tokens};
-use crate::state::Parser;
-use crate::state::Step;
+ghost use Rattle.state.specs.Change.{relexed};
+ghost use Rattle.state.specs.Contract.{Droppable, Grows, Ignored, Somehow, Tokens};
 use builder::drop_token;
 use lexer::Column;
 use lexer::cell;
+use state::Parser;
+use state::Step;
 use syntax::Reason;
 use syntax::SyntaxKind;
 

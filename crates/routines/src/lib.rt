@@ -1,30 +1,12 @@
-// The parser's state by value, and the routines of parser.rs that read no item inside another.
-mod argument;
-mod clauses;
+// The parser's routines over tokens and held trivia: what is read becomes leaves, or is dropped.
 mod held;
-mod skipped;
-mod state;
 mod tokens;
 
-pub use argument::begin_argument;
-pub use argument::character;
-pub use argument::end_argument;
-pub use clauses::clause_lr;
-pub use clauses::end_clause;
-pub use clauses::left1_command;
-pub use clauses::right_clause;
-pub use clauses::start_around;
-pub use clauses::text;
 pub use held::extract_holding_trivia;
 pub use held::hold_trivia;
 pub use held::ignore_holding_trivia;
-pub use skipped::skipped_body;
-pub use state::KeptMark;
-pub use state::ListState;
-pub use state::Mark;
-pub use state::Parser;
-pub use state::Step;
 pub use tokens::eat;
+pub use tokens::eat_as;
 pub use tokens::eat_if;
 pub use tokens::one_in;
 pub use tokens::single_char;

@@ -6,13 +6,13 @@ ghost use Rattle.rules.specs.Kinds.{isTrivia};
 ghost use Rattle.rules.specs.Position.{asked};
 ghost use Rattle.lexer.specs.Reading.{cursorOf};
 ghost use Rattle.rules.specs.Routines as spec;
-ghost use Rattle.routines.specs.Contract.{AtWord, Grows, Left-of, Somehow, Texts, There, Tokens, isWord};
-use crate::state::Parser;
-use crate::state::Step;
+ghost use Rattle.state.specs.Contract.{AtWord, Grows, Left-of, Somehow, Texts, There, Tokens, isWord};
 use lexer::Column;
 use lexer::Peeked;
 use lexer::cell;
 use lexer::char_len;
+use state::Parser;
+use state::Step;
 use syntax::SyntaxKind;
 use syntax::Token;
 

@@ -10,12 +10,12 @@ use Rattle.rules.specs.Position.{steps}
 use Rattle.rules.specs.Reading as spec
 use Rattle.rules.specs.Routines as routine
 use Rattle.items.specs.Items.{pieceFor}
-use Rattle.routines.specs.Stands.{Buffers}
-use Rattle.routines.specs.declared.state.Step.{Step}
-use Rattle.routines.proofs.ArgumentNode.{framed}
+use Rattle.state.specs.Stands.{Buffers}
+use Rattle.state.specs.declared.Step.{Step}
+use Rattle.clauses.proofs.ArgumentNode.{framed}
 use Rattle.routines.proofs.HeldLaws.{droppable}
-use Rattle.routines.proofs.Turn.{calls, opening, closing, done, begins-in, still-next}
-use Rattle.routines.proofs.Walk.{Rule, line, begins, closes}
+use Rattle.state.proofs.Turn.{calls, opening, closing, done, begins-in, still-next}
+use Rattle.state.proofs.Walk.{Rule, line, begins, closes}
 use Rattle.parser.specs.Member.{tables, buffers, innerAt}
 use Rattle.parser.proofs.Cycle.{below, TurnedBy}
 use Rattle.parser.proofs.arg.Reads as own

@@ -14,7 +14,7 @@ use Rattle.lexer.proofs.Utf8.{to-the-end}
 use Rattle.arg_match.specs.Answers.{matcherOf, triedOf}
 use Rattle.items.specs.Items.{choiceFor}
 use Rattle.items.specs.declared.choice.Choice.{Choice}
-use Rattle.routines.specs.Stands.{Buffers}
+use Rattle.state.specs.Stands.{Buffers}
 use Rattle.parser.specs.Member.{Next, tables, buffers}
 use Rattle.parser.proofs.ArgumentLoop.{Chosen, at-end, by-kind, arguments-begin, arguments-end, arguments-hold, arguments-hold-less, arguments-stop, arguments-take, arguments-take-less}
 use Rattle.parser.proofs.WordLoop.{Taking, taking-begins, taking-ends, taking-known, taking-stops, taking-less, taking-goes-on}

@@ -14,15 +14,15 @@ use Rattle.rules.specs.Position.{steps}
 use Rattle.rules.specs.Reading as spec
 use Rattle.rules.specs.Routines as routine
 use Rattle.rules.specs.SyntaxKind.{ItemAttachComponent}
-use Rattle.routines.specs.Contract.{MarkOk}
-use Rattle.routines.specs.Stands.{Buffers, Here, isNothing, keptOf, markIn, optionOf, posOf}
-use Rattle.routines.specs.declared.state.Mark.{Mark}
-use Rattle.routines.specs.declared.state.Mark.the-variants.{Nothing, At as At-mark}
-use Rattle.routines.specs.declared.state.Parser.{Parser}
-use Rattle.routines.specs.declared.state.Step.{Step}
-use Rattle.routines.proofs.Marks.{taken-is, taken-ok}
-use Rattle.routines.proofs.Turn.{calls, opening, closing, done, finishes, around, still-next}
-use Rattle.routines.proofs.Walk.{Rule, line, begins, ran}
+use Rattle.state.specs.Contract.{MarkOk}
+use Rattle.state.specs.Stands.{Buffers, Here, isNothing, keptOf, markIn, optionOf, posOf}
+use Rattle.state.specs.declared.Mark.{Mark}
+use Rattle.state.specs.declared.Mark.the-variants.{Nothing, At as At-mark}
+use Rattle.state.specs.declared.Parser.{Parser}
+use Rattle.state.specs.declared.Step.{Step}
+use Rattle.state.proofs.Marks.{taken-is, taken-ok}
+use Rattle.state.proofs.Turn.{calls, opening, closing, done, finishes, around, still-next}
+use Rattle.state.proofs.Walk.{Rule, line, begins, ran}
 use Rattle.parser.specs.Member.{tables, buffers, innerAt}
 use Rattle.parser.proofs.Cycle.{below, runs-as, ran-runs, TurnedBy}
 use Rattle.parser.proofs.Entry.{somehow}

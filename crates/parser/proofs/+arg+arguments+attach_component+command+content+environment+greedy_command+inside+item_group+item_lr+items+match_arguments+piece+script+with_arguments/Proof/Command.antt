@@ -19,16 +19,16 @@ use Rattle.rules.specs.Routines as routine
 use Rattle.rules.specs.SyntaxKind as kinds
 use Rattle.items.specs.Items.{shapeFor}
 use Rattle.items.specs.declared.shape.Shape.{Shape}
-use Rattle.routines.specs.Change.{remarked}
-use Rattle.routines.specs.Contract.{MarkOk, Ready, Runs}
-use Rattle.routines.specs.Stands.{Buffers, keptOf, markIn, noMark, optionOf, posOf}
-use Rattle.routines.specs.declared.state.KeptMark.{KeptMark}
-use Rattle.routines.specs.declared.state.Mark.{Mark}
-use Rattle.routines.specs.declared.state.Mark.the-variants.{Nothing}
-use Rattle.routines.specs.declared.state.Parser.{Parser}
-use Rattle.routines.specs.declared.state.Step.{Step}
-use Rattle.routines.proofs.Marks.{no-mark, taken-is, kept-again, taken-ok}
-use Rattle.routines.proofs.Walk.{Rule, line, last-step, Walk, begins, hands-on}
+use Rattle.state.specs.Change.{remarked}
+use Rattle.state.specs.Contract.{MarkOk, Ready, Runs}
+use Rattle.state.specs.Stands.{Buffers, keptOf, markIn, noMark, optionOf, posOf}
+use Rattle.state.specs.declared.KeptMark.{KeptMark}
+use Rattle.state.specs.declared.Mark.{Mark}
+use Rattle.state.specs.declared.Mark.the-variants.{Nothing}
+use Rattle.state.specs.declared.Parser.{Parser}
+use Rattle.state.specs.declared.Step.{Step}
+use Rattle.state.proofs.Marks.{no-mark, taken-is, kept-again, taken-ok}
+use Rattle.state.proofs.Walk.{Rule, line, last-step, Walk, begins, hands-on}
 use Rattle.parser.specs.Member.{shapeIn, tables, buffers, innerAt}
 use Rattle.parser.proofs.Cycle.{runs, runs-as, ran-runs, remarks}
 use Rattle.parser.proofs.Entry.{somehow}

@@ -20,11 +20,11 @@ use Rattle.items.proofs.item.Item.{the-type}
 use Rattle.items.specs.Items.{itemFor}
 use Rattle.items.specs.declared.item.Item.{Item}
 use Rattle.items.specs.declared.item.Item.the-variants.{Plain, Error, Word, Comma, Group, Attachment, Command, Environment, LeftRight, Skipped}
-use Rattle.routines.specs.Contract.{Runs}
-use Rattle.routines.specs.Stands.{Buffers, posOf}
-use Rattle.routines.specs.declared.state.Parser.{Parser}
-use Rattle.routines.specs.declared.state.Step.{Step}
-use Rattle.routines.proofs.Walk.{Rule}
+use Rattle.state.specs.Contract.{Runs}
+use Rattle.state.specs.Stands.{Buffers, posOf}
+use Rattle.state.specs.declared.Parser.{Parser}
+use Rattle.state.specs.declared.Step.{Step}
+use Rattle.state.proofs.Walk.{Rule}
 use Rattle.parser.specs.Member.{Next, tables, buffers, innerAt}
 use Rattle.parser.proofs.Cycle.{runs-as, ran-runs}
 use Rattle.parser.proofs.Entry.{somehow}

@@ -13,9 +13,9 @@ use Rattle.rules.specs.Routines as routine
 use Rattle.rules.specs.Scope as scopes
 use Rattle.rules.specs.SyntaxKind.{ItemEnv}
 use Rattle.items.specs.Items.{shapeFor}
-use Rattle.routines.specs.declared.state.Step.{Step}
-use Rattle.routines.proofs.Turn.{calls, opening, closing, done, starts, finishes, still-next}
-use Rattle.routines.proofs.Walk.{Rule, line, begins, ran}
+use Rattle.state.specs.declared.Step.{Step}
+use Rattle.state.proofs.Turn.{calls, opening, closing, done, starts, finishes, still-next}
+use Rattle.state.proofs.Walk.{Rule, line, begins, ran}
 use Rattle.parser.specs.Member.{given, lent, innerAt, shapeIn, Next}
 use Rattle.parser.proofs.Cycle.{below, runs, runs-as, TurnedBy}
 use Rattle.parser.proofs.Entry.{somehow}

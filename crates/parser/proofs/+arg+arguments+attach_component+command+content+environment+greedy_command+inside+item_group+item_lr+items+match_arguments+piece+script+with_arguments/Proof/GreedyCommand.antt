@@ -13,12 +13,12 @@ use Rattle.rules.specs.Position.{steps}
 use Rattle.rules.specs.Reading as spec
 use Rattle.rules.specs.Routines as routine
 use Rattle.rules.specs.SyntaxKind.{ItemCmd, ClauseArgument}
-use Rattle.routines.specs.Contract.{Runs}
-use Rattle.routines.specs.Stands.{Buffers, optionOf, posOf}
-use Rattle.routines.specs.declared.state.Parser.{Parser}
-use Rattle.routines.specs.declared.state.Step.{Step}
-use Rattle.routines.proofs.Turn.{Turn, calls, opening, closing, done, around, starts, finishes, still-next}
-use Rattle.routines.proofs.Walk.{Rule, Walk, Stopped, line, begins, ran, stops}
+use Rattle.state.specs.Contract.{Runs}
+use Rattle.state.specs.Stands.{Buffers, optionOf, posOf}
+use Rattle.state.specs.declared.Parser.{Parser}
+use Rattle.state.specs.declared.Step.{Step}
+use Rattle.state.proofs.Turn.{Turn, calls, opening, closing, done, around, starts, finishes, still-next}
+use Rattle.state.proofs.Walk.{Rule, Walk, Stopped, line, begins, ran, stops}
 use Rattle.parser.specs.Member.{given, lent, buffers, innerAt}
 use Rattle.parser.proofs.Cycle.{below, runs, TurnedBy}
 use Rattle.parser.proofs.Entry.{somehow}

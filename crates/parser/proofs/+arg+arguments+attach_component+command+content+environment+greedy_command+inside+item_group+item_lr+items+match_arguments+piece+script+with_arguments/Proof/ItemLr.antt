@@ -11,9 +11,9 @@ use Rattle.rules.specs.Reading as spec
 use Rattle.rules.specs.Routines as routine
 use Rattle.rules.specs.Scope.{LR}
 use Rattle.rules.specs.SyntaxKind.{ItemLR}
-use Rattle.routines.specs.declared.state.Step.{Step}
-use Rattle.routines.proofs.Turn.{calls, opening, closing, done, starts, finishes, still-next}
-use Rattle.routines.proofs.Walk.{Rule, line, begins, ran}
+use Rattle.state.specs.declared.Step.{Step}
+use Rattle.state.proofs.Turn.{calls, opening, closing, done, starts, finishes, still-next}
+use Rattle.state.proofs.Walk.{Rule, line, begins, ran}
 use Rattle.parser.specs.Member.{given, lent, innerAt}
 use Rattle.parser.proofs.Cycle.{below, TurnedBy}
 use Rattle.parser.proofs.Entry.{somehow}

@@ -5,7 +5,7 @@ use mathlib.Core.Bool.{true}
 use mathlib.Core.Path.{_≡_, sym, _∙_}
 use native.Mathlib.Omega.{arith}
 use Rattle.rules.specs.Checks.{Tables}
-use Rattle.routines.specs.Stands.{Buffers}
+use Rattle.state.specs.Stands.{Buffers}
 use Rattle.parser.specs.Member.{Next, tables, buffers}
 use Rattle.parser.proofs.ItemLoop.{Turned, asks, loop-begins, loop-turned, loop-there, loop-stops, loop-goes-on, loop-less, loop-ends}
 use Rattle.parser.proofs.items.Reads as own

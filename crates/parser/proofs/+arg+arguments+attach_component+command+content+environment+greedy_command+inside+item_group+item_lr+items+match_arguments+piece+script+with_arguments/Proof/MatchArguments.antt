@@ -18,18 +18,18 @@ use Rattle.rules.specs.Reading as spec
 use Rattle.arg_match.specs.Answers.{matcherOf}
 use Rattle.items.specs.Items.{shapeFor}
 use Rattle.items.specs.declared.shape.Shape.{Shape}
-use Rattle.routines.specs.Change.{remarked, unheld}
-use Rattle.routines.specs.Contract.{Ready, Runs}
-use Rattle.routines.specs.Stands.{Buffers, keptOf, markIn, markOf, noMark, posOf}
-use Rattle.routines.specs.declared.state.Mark.{Mark}
-use Rattle.routines.specs.declared.state.Parser.{Parser}
-use Rattle.routines.specs.declared.state.Step.{Step}
-use Rattle.routines.specs.declared.state.Step.the-variants.{Went, Refused}
-use Rattle.routines.proofs.Building.{mark-more}
+use Rattle.state.specs.Change.{remarked, unheld}
+use Rattle.state.specs.Contract.{Ready, Runs}
+use Rattle.state.specs.Stands.{Buffers, keptOf, markIn, markOf, noMark, posOf}
+use Rattle.state.specs.declared.Mark.{Mark}
+use Rattle.state.specs.declared.Parser.{Parser}
+use Rattle.state.specs.declared.Step.{Step}
+use Rattle.state.specs.declared.Step.the-variants.{Went, Refused}
+use Rattle.state.proofs.Building.{mark-more}
 use Rattle.routines.proofs.HeldLaws.{holding-none}
-use Rattle.routines.proofs.Marks.{no-mark, kept-again, taken-ok}
-use Rattle.routines.proofs.Turn.{Turn, calls}
-use Rattle.routines.proofs.Walk.{Rule, line, Walk, begins, arrives}
+use Rattle.state.proofs.Marks.{no-mark, kept-again, taken-ok}
+use Rattle.state.proofs.Turn.{Turn, calls}
+use Rattle.state.proofs.Walk.{Rule, line, Walk, begins, arrives}
 use Rattle.parser.specs.Member.{tables, buffers, innerAt, allArguments}
 use Rattle.parser.proofs.Cycle.{runs, remarks, unholds}
 use Rattle.parser.proofs.ShapeArguments.{greedy-is}

@@ -8,11 +8,11 @@ use Rattle.rules.specs.Flat.{flat}
 use Rattle.rules.specs.Reading as spec
 use Rattle.items.specs.Items.{pieceFor}
 use Rattle.items.specs.declared.choice.Piece.{Piece}
-use Rattle.routines.specs.Contract.{Runs}
-use Rattle.routines.specs.Stands.{Buffers, posOf}
-use Rattle.routines.specs.declared.state.Parser.{Parser}
-use Rattle.routines.specs.declared.state.Step.{Step}
-use Rattle.routines.proofs.Walk.{Rule}
+use Rattle.state.specs.Contract.{Runs}
+use Rattle.state.specs.Stands.{Buffers, posOf}
+use Rattle.state.specs.declared.Parser.{Parser}
+use Rattle.state.specs.declared.Step.{Step}
+use Rattle.state.proofs.Walk.{Rule}
 use Rattle.parser.specs.Member.{innerAt}
 use Rattle.parser.proofs.Cycle.{ran-runs, above}
 use Rattle.parser.proofs.Entry.{somehow}

@@ -14,12 +14,12 @@ use Rattle.rules.specs.Routines as routine
 use Rattle.rules.specs.Tables.{tokenCount}
 use Rattle.lexer.proofs.Laws.{peek-none}
 use Rattle.lexer.specs.Reading.{cursorOf}
-use Rattle.routines.specs.Contract.{Ready, Left, Runs, isWord}
-use Rattle.routines.specs.Stands.{Buffers, posOf}
-use Rattle.routines.specs.declared.state.Parser.{Parser}
-use Rattle.routines.specs.declared.state.Step.{Step}
-use Rattle.routines.proofs.Turn.{Turn, calls}
-use Rattle.routines.proofs.Walk.{Rule, line, Walk, Call, begins, turns, arrives, hands-on, ran}
+use Rattle.state.specs.Contract.{Ready, Left, Runs, isWord}
+use Rattle.state.specs.Stands.{Buffers, posOf}
+use Rattle.state.specs.declared.Parser.{Parser}
+use Rattle.state.specs.declared.Step.{Step}
+use Rattle.state.proofs.Turn.{Turn, calls}
+use Rattle.state.proofs.Walk.{Rule, line, Walk, Call, begins, turns, arrives, hands-on, ran}
 use Rattle.parser.specs.Member.{tables, buffers, innerAt}
 use Rattle.parser.proofs.Cycle.{runs, read-less}
 use Rattle.parser.proofs.Entry.{somehow}

@@ -1,10 +1,10 @@
 -- `lists::closed` meets its contract: each arm is the rule at its extent. Assumes nothing.
 use borrow.Author.Needs.{needs}
 use mathlib.Core.Path.{_≡_, _∙_, ap}
-use Rattle.routines.specs.Change.{remarked}
-use Rattle.routines.specs.Stands.{keptOf, markIn, noMark}
-use Rattle.routines.specs.declared.state.Mark.{Mark}
-use Rattle.routines.specs.declared.state.Parser.{Parser}
+use Rattle.state.specs.Change.{remarked}
+use Rattle.state.specs.Stands.{keptOf, markIn, noMark}
+use Rattle.state.specs.declared.Mark.{Mark}
+use Rattle.state.specs.declared.Parser.{Parser}
 use Rattle.parser.proofs.lists.closed.Statement.{statement}
 use Rattle.parser.proofs.lists.closed.Tie as tie
 mod At

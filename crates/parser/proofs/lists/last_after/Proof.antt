@@ -4,7 +4,7 @@ use mathlib.Core.Bool.{Bool}
 use mathlib.Core.Path.{_≡_, sym, ap, _∙_}
 use Prim.Native.Nat.{ℕ}
 use Rattle.items.specs.declared.shape.Shape.{Shape}
-use Rattle.routines.specs.Stands.{keptOf}
+use Rattle.state.specs.Stands.{keptOf}
 use Rattle.parser.proofs.Marks.{attached, last-kept, last-moved}
 use Rattle.parser.proofs.lists.last_after.Statement.{statement}
 use Rattle.parser.proofs.lists.last_after.Tie as tie

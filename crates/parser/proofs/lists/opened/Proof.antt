@@ -1,10 +1,10 @@
 -- `lists::opened` meets its contract: each arm is the rule at its extent. Assumes nothing.
 use borrow.Author.Needs.{needs}
 use mathlib.Core.Path.{_≡_, _∙_, ap}
-use Rattle.routines.specs.Change.{relisted, remarked}
-use Rattle.routines.specs.Stands.{keptOf, markAt, noMark}
-use Rattle.routines.specs.declared.state.Mark.{Mark}
-use Rattle.routines.specs.declared.state.Parser.{Parser}
+use Rattle.state.specs.Change.{relisted, remarked}
+use Rattle.state.specs.Stands.{keptOf, markAt, noMark}
+use Rattle.state.specs.declared.Mark.{Mark}
+use Rattle.state.specs.declared.Parser.{Parser}
 use Rattle.syntax.specs.ParseScope.{numberOf}
 use Rattle.syntax.specs.declared.parse_scope.ParseScope.{ParseScope}
 use Rattle.parser.specs.Member.{markHere}

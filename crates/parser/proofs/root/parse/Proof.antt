@@ -11,14 +11,14 @@ use Rattle.rules.specs.Flat.{flat}
 use Rattle.rules.specs.Position as position
 use Rattle.rules.specs.Reading as spec
 use Rattle.rules.specs.SyntaxKind as kinds
-use Rattle.routines.specs.Contract.{Left, Opens, Closes, Steady}
+use Rattle.state.specs.Contract.{Left, Opens, Closes, Steady}
 use Rattle.builder.specs.Contract.{Fits}
 use Rattle.builder.specs.Stands as shown
 use Rattle.builder.specs.declared.Frame.{Frame}
-use Rattle.routines.specs.Stands.{Buffers}
-use Rattle.routines.specs.declared.state.Parser.{Parser}
-use Rattle.routines.specs.declared.state.Step.{Step}
-use Rattle.routines.proofs.Walk.{line, Walk, Call, passes, closes}
+use Rattle.state.specs.Stands.{Buffers}
+use Rattle.state.specs.declared.Parser.{Parser}
+use Rattle.state.specs.declared.Step.{Step}
+use Rattle.state.proofs.Walk.{line, Walk, Call, passes, closes}
 use Rattle.parser.specs.Member.{tables, buffers}
 use Rattle.parser.specs.Root.{atRoot}
 use Rattle.parser.proofs.Cycle.{below}

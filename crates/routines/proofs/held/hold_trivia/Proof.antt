@@ -2,7 +2,7 @@
 use mathlib.Core.Path.{ap, _∙_}
 use borrow.Author.Needs.{needs}
 use Rattle.rules.specs.Cursor.{Cursor}
-use Rattle.routines.specs.Change.{relexed}
+use Rattle.state.specs.Change.{relexed}
 use Rattle.routines.proofs.held.hold_trivia.Statement.{statement}
 use Rattle.routines.proofs.held.hold_trivia.Tie as tie
 mod At

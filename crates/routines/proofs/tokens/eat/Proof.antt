@@ -1,7 +1,7 @@
 -- `tokens::eat` meets its contract: the kind of the leaf is what the token's kind turns into. Assumes nothing.
 use borrow.Author.Needs.{needs}
 use Rattle.rules.specs.Routines.{eat}
-use Rattle.routines.proofs.Walk.{ran-as}
+use Rattle.state.proofs.Walk.{ran-as}
 use Rattle.routines.proofs.tokens.eat.Statement.{statement}
 use Rattle.routines.proofs.tokens.eat.Tie as tie
 mod At

@@ -1,12 +1,18 @@
 -- `tokens::eat_as` meets its contract: the leaf is what is left of the next token, and then that token is passed. Assumes nothing.
-use mathlib.Core.List.{[]}
-use mathlib.Core.Path.{ap, _∙_}
+use mathlib.Core.List.{List, []}
+use mathlib.Core.Path.{_≡_, ap, _∙_}
+use Prim.Native.Nat.{ℕ}
 use native.Mathlib.Omega.{arith}
 use borrow.Author.Needs.{needs}
+use Rattle.rules.specs.Builder.{Leaf}
+use Rattle.rules.specs.Checks.{Tables, sourceOf}
 use Rattle.rules.specs.Cursor.{eaten}
+use Rattle.rules.specs.Flat.{flat}
+use Rattle.rules.specs.Routines.{eatAs}
 use Rattle.lexer.specs.Reading.{cursorOf}
-use Rattle.routines.specs.Contract.{buffers}
-use Rattle.routines.proofs.Leaves.{here-of, small-token, onward-eaten, eat-as-is, leaf-stops, leaf-goes-on, same-lexer}
+use Rattle.state.specs.Contract.{Tokens, buffers}
+use Rattle.state.specs.Stands.{posOf}
+use Rattle.routines.proofs.Leaves.{here-of, small-token, onward-eaten, eat-as-is, leaf-then, leaf-stops, leaf-goes-on, same-lexer}
 use Rattle.routines.proofs.tokens.eat_as.Statement.{statement}
 use Rattle.routines.proofs.tokens.eat_as.Tie as tie
 mod At
@@ -18,19 +24,29 @@ rest-start-requires c κs = here-of (slice-known→entry c .pre .1) (slice-known
 rest-length-requires : tie.Need-rest-length-requires
 rest-length-requires c κs = here-of (rest-start→entry c .pre .1) (rest-start→entry c .pre .0)
 
+-- the leaf that the code writes
+abbrev leaf : tie.After-leaf → Leaf
+leaf c =
+    let given = leaf→entry c .args in
+    record {
+      token = given .p .lexer .token;
+      kind = given .kind;
+      start = leaf→rest-start c .rest-start .result;
+      size = leaf→rest-length c .rest-length .result;
+    }
+
+-- is the rule's
+leaf-is : (c : tie.After-leaf) (t : Tables) → Tokens (leaf→entry c .args .tokens) t → (notes : List ℕ) (n : ℕ)
+    → eatAs (flat n) (sourceOf t) (leaf→entry c .args .kind) (posOf (leaf→entry c .args .p) (buffers (leaf→entry c .args .tree .now) notes))
+    ≡ leaf-then (leaf c) eaten n (posOf (leaf→entry c .args .p) (buffers (leaf→entry c .args .tree .now) notes))
+leaf-is c t seen notes =
+    eat-as-is t _ (leaf→entry c .args .p) (buffers (leaf→entry c .args .tree .now) notes) _ _ _ seen (leaf→rest-start c .rest-start .ensures)
+    (leaf→rest-length c .rest-length .ensures)
+
 returns : tie.Need-returns
-returns c notes = record {
-  told = λ t seen ready.
-      let given = returns→entry c .args in
-      let start = returns→rest-start c .rest-start in
-      let size = returns→rest-length c .rest-length in
-      let leaf = returns→leaf c .leaf in
-      leaf-stops t (given .p) (given .tree .now) (leaf .last .1 .0) notes ready
-      (record { token = given .p .lexer .token; kind = given .kind; start = start .result; size = size .result }) eaten _
-      (eat-as-is t (given .tokens .now) (given .p) (buffers (given .tree .now) notes) (given .kind) (start .result) (size .result)
-      seen (start .ensures) (size .ensures))
-      (leaf .ensures notes (given .p .lexer .token)) (c .enum-told .given);
-}
+returns c =
+    let wrote = returns→leaf c in
+    leaf-stops (leaf wrote) eaten (leaf-is wrote) (λ notes. wrote .leaf .ensures notes (leaf wrote .token)) (c .enum-told .given)
 
 eat-requires : tie.Need-eat-requires
 eat-requires c κs =
@@ -39,22 +55,14 @@ eat-requires c κs =
     rw same (omega arith)
 
 returns-2 : tie.Need-returns-2
-returns-2 c notes = record {
-  told = λ t seen ready.
-      let given = returns-2→entry c .args in
-      let start = returns-2→rest-start c .rest-start in
-      let size = returns-2→rest-length c .rest-length in
-      let leaf = returns-2→leaf c .leaf in
-      let went = returns-2→written c .written .given .1 in
-      let moves = returns-2→eat c .eat .ensures in
-      let same = same-lexer (leaf .ensures [] 0) went in
-      leaf-goes-on t (given .p) (given .tree .now) (leaf .last .1 .0) notes ready
-      (record { token = given .p .lexer .token; kind = given .kind; start = start .result; size = size .result }) eaten _
-      (eat-as-is t (given .tokens .now) (given .p) (buffers (given .tree .now) notes) (given .kind) (start .result) (size .result)
-      seen (start .ensures) (size .ensures))
-      _ (leaf .ensures notes (given .p .lexer .token)) went (c .with-lexer .ensures) moves (leaf .kept .1 .0)
-      (onward-eaten ready (rw seen (returns-2→entry c .pre .0)) (moves ∙ ap (λ l. eaten (cursorOf l)) same));
-}
+returns-2 c =
+    let wrote = returns-2→leaf c in
+    let went = returns-2→written c .written .given .1 in
+    let moves = returns-2→eat c .eat .ensures in
+    let same = same-lexer (wrote .leaf .ensures [] 0) went in
+    leaf-goes-on (leaf wrote) eaten (leaf-is wrote) (λ notes. wrote .leaf .ensures notes (leaf wrote .token)) _ went (c .with-lexer .ensures) moves
+    (wrote .leaf .kept .1 .0)
+    (λ t notes seen ready. onward-eaten ready (rw seen (returns-2→entry c .pre .0)) (moves ∙ ap (λ l. eaten (cursorOf l)) same))
 
 pub eat-as-spec : {M : Type 1} → statement M
 eat-as-spec =

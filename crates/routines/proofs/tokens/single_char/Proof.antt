@@ -5,14 +5,18 @@ use Prim.Native.Nat.{ℕ}
 use native.Mathlib.Omega.{arith}
 use borrow.Author.Needs.{needs}
 use Rattle.rules.specs.Characters.{charLength}
-use Rattle.rules.specs.Checks.{Tables}
-use Rattle.rules.specs.Cursor.{consumed, peekText}
+use Rattle.rules.specs.Builder.{Leaf}
+use Rattle.rules.specs.Checks.{Tables, sourceOf}
+use Rattle.rules.specs.Cursor.{Cursor, consumed, peekText}
+use Rattle.rules.specs.Flat.{flat}
+use Rattle.rules.specs.Routines.{singleChar}
 use Rattle.rules.specs.SyntaxKind.{TokenWord}
 use Rattle.rules.proofs.Characters.{char-four}
 use Rattle.lexer.specs.Reading.{cursorOf}
 use Rattle.lexer.specs.declared.cursor.Lexer.{Lexer}
-use Rattle.routines.specs.Contract.{buffers}
-use Rattle.routines.proofs.Leaves.{here-of, seen-less, onward-char, single-char-is, leaf-stops, leaf-goes-on, same-lexer}
+use Rattle.state.specs.Contract.{Left-of, buffers}
+use Rattle.state.specs.Stands.{posOf}
+use Rattle.routines.proofs.Leaves.{here-of, seen-less, onward-char, single-char-is, leaf-then, leaf-stops, leaf-goes-on, same-lexer}
 use Rattle.routines.proofs.tokens.single_char.Statement.{statement}
 use Rattle.routines.proofs.tokens.single_char.Tie as tie
 mod At
@@ -25,20 +29,33 @@ rest-start-requires c κs = here-of (seen-less (λ t seen. seen .0) (char-len→
 cast-leaf : tie.Need-cast-leaf
 cast-leaf c = omega (arith, char-four (leaf-arg→entry c .args .word .now), leaf-arg→char-len c .char-len .ensures)
 
+-- the leaf that the code writes
+abbrev leaf : tie.After-leaf → Leaf
+leaf c =
+    record {
+      token = leaf→entry c .args .p .lexer .token;
+      kind = TokenWord;
+      start = leaf→rest-start c .rest-start .result;
+      size = leaf→char-len c .char-len .result;
+    }
+
+-- where the cursor goes
+abbrev onto : tie.After-leaf → Cursor → Cursor
+onto c = consumed (leaf→entry c .args .tokens .now) (leaf→char-len c .char-len .result)
+
+-- both are the rule's
+leaf-is : (c : tie.After-leaf) (t : Tables) → Left-of (leaf→entry c .args .tokens) (leaf→entry c .args .word) (leaf→entry c .args .p) t
+    → (notes : List ℕ) (n : ℕ)
+    → singleChar (flat n) (sourceOf t) (posOf (leaf→entry c .args .p) (buffers (leaf→entry c .args .tree .now) notes))
+    ≡ leaf-then (leaf c) (onto c) n (posOf (leaf→entry c .args .p) (buffers (leaf→entry c .args .tree .now) notes))
+leaf-is c t seen notes =
+    single-char-is t _ _ (leaf→entry c .args .p) (buffers (leaf→entry c .args .tree .now) notes) _ _ (seen .0) (seen .1)
+    (leaf→rest-start c .rest-start .ensures) (leaf→char-len c .char-len .ensures)
+
 returns : tie.Need-returns
-returns c notes = record {
-  told = λ t seen ready.
-      let given = returns→entry c .args in
-      let start = returns→rest-start c .rest-start in
-      let size = returns→char-len c .char-len in
-      let leaf = returns→leaf c .leaf in
-      leaf-stops t (given .p) (given .tree .now) (leaf .last .1 .0) notes ready
-      (record { token = given .p .lexer .token; kind = TokenWord; start = start .result; size = size .result })
-      (consumed (given .tokens .now) (size .result)) _
-      (single-char-is t (given .tokens .now) (given .word .now) (given .p) (buffers (given .tree .now) notes) (start .result) (size .result)
-      (seen .0) (seen .1) (start .ensures) (size .ensures))
-      (leaf .ensures notes (given .p .lexer .token)) (c .enum-told .given);
-}
+returns c =
+    let wrote = returns→leaf c in
+    leaf-stops (leaf wrote) (onto wrote) (leaf-is wrote) (λ notes. wrote .leaf .ensures notes (leaf wrote .token)) (c .enum-told .given)
 
 consume-utf8-bytes-requires : tie.Need-consume-utf8-bytes-requires
 consume-utf8-bytes-requires c κs =
@@ -54,27 +71,19 @@ counted : (t : Tables) (tokens word : List ℕ) (was is : Lexer) (size : ℕ)
 counted t tokens word was is size same seen word-is size-is = rw (same, seen, ← word-is, ← size-is)
 
 returns-2 : tie.Need-returns-2
-returns-2 c notes = record {
-  told = λ t seen ready.
-      let given = returns-2→entry c .args in
-      let pre = returns-2→entry c .pre .0 in
-      let start = returns-2→rest-start c .rest-start in
-      let size = returns-2→char-len c .char-len in
-      let leaf = returns-2→leaf c .leaf in
-      let went = returns-2→written c .written .given .1 in
-      let moves = returns-2→consume-utf8-bytes c .consume-utf8-bytes .ensures in
-      let same = same-lexer (leaf .ensures [] 0) went in
-      let inside = returns-2→written c .written .given .0 .0 .lexer in
-      let to-is = counted t (given .tokens .now) (given .word .now) (given .p .lexer) inside (size .result) same (seen .0) (seen .1)
-      (size .ensures) in
-      leaf-goes-on t (given .p) (given .tree .now) (leaf .last .1 .0) notes ready
-      (record { token = given .p .lexer .token; kind = TokenWord; start = start .result; size = size .result })
-      (consumed (given .tokens .now) (size .result)) _
-      (single-char-is t (given .tokens .now) (given .word .now) (given .p) (buffers (given .tree .now) notes) (start .result) (size .result)
-      (seen .0) (seen .1) (start .ensures) (size .ensures))
-      _ (leaf .ensures notes (given .p .lexer .token)) went (c .with-lexer .ensures) moves (leaf .kept .1 .0)
-      (onward-char ready (rw (seen .0) (pre .0)) (rw (seen .0) (pre .1)) (moves ∙ to-is));
-}
+returns-2 c =
+    let wrote = returns-2→leaf c in
+    let given = returns-2→entry c .args in
+    let pre = returns-2→entry c .pre .0 in
+    let size = returns-2→char-len c .char-len in
+    let went = returns-2→written c .written .given .1 in
+    let inside = returns-2→written c .written .given .0 .0 .lexer in
+    let moves = returns-2→consume-utf8-bytes c .consume-utf8-bytes .ensures in
+    let same = same-lexer (wrote .leaf .ensures [] 0) went in
+    leaf-goes-on (leaf wrote) (onto wrote) (leaf-is wrote) (λ notes. wrote .leaf .ensures notes (leaf wrote .token)) _ went
+    (c .with-lexer .ensures) moves (wrote .leaf .kept .1 .0)
+    (λ t notes seen ready. onward-char ready (rw (seen .0) (pre .0)) (rw (seen .0) (pre .1))
+    (moves ∙ counted t (given .tokens .now) (given .word .now) (given .p .lexer) inside (size .result) same (seen .0) (seen .1) (size .ensures)))
 
 pub single-char-spec : {M : Type 1} → statement M
 single-char-spec =

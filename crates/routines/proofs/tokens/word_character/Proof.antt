@@ -1,23 +1,11 @@
 -- `tokens::word_character` meets its contract: the routine's promise holds for all tables that agree with more than it sees. Assumes nothing.
-use mathlib.Core.List.{List}
-use mathlib.Core.Path.{_≡_}
-use Prim.Native.Nat.{ℕ}
 use borrow.Author.Needs.{needs}
-use Rattle.lexer.specs.Fine.{Fine}
-use Rattle.lexer.specs.Reading.{cursorOf}
-use Rattle.routines.specs.Contract.{Somehow}
-use Rattle.routines.specs.declared.state.Parser.{Parser}
-use Rattle.routines.proofs.Leaves.{seen-less}
-use Rattle.routines.proofs.Outside.{ran-seeing}
+use Rattle.routines.proofs.Leaves.{fine-of, seen-less}
+use Rattle.state.proofs.Outside.{ran-seeing}
 use Rattle.routines.proofs.tokens.word_character.Statement.{statement}
 use Rattle.routines.proofs.tokens.word_character.Tie as tie
 mod At
 use At.*
-
--- the cursor is fine in what the code was handed
-fine-of : {text tokens tree : List ℕ} {p : Parser} → Somehow (λ t. (t .text ≡ text) × (t .tokens ≡ tokens)) p tree
-    → Fine text tokens (cursorOf (p .lexer))
-fine-of s = rw (s .seen .0, s .seen .1) at (s .ready .steady .fine)
 
 peek-text-requires : tie.Need-peek-text-requires
 peek-text-requires c κs = let pre = single-char-arg→entry c .pre in (pre .0 .0, fine-of (pre .1))

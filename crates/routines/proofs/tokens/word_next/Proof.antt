@@ -2,7 +2,7 @@
 use mathlib.Core.Path.{sym}
 use borrow.Author.Needs.{needs}
 use Rattle.routines.proofs.Asked.{asked-kind, asked-end}
-use Rattle.routines.specs.Contract.{isWord}
+use Rattle.state.specs.Contract.{isWord}
 use Rattle.routines.proofs.tokens.word_next.Statement.{statement}
 use Rattle.routines.proofs.tokens.word_next.Tie as tie
 mod At

@@ -2,8 +2,8 @@
 use Prim.Native.Nat.{ℕ}
 use borrow.Fn.Kinds.{In, Dens, Plain}
 use contract.Lifetimes.{Lfts}
-use Rattle.routines.proofs.begin_argument.Reads as begin-argument-reads
-use Rattle.routines.proofs.end_argument.Reads as end-argument-reads
+use Rattle.clauses.proofs.begin_argument.Reads as begin-argument-reads
+use Rattle.clauses.proofs.end_argument.Reads as end-argument-reads
 use Rattle.builder.proofs.GreenNodeBuilder.frame.Reads as frame-reads
 use Rattle.parser.proofs.piece.Reads as piece
 use Rattle.parser.proofs.arg.Reads as own

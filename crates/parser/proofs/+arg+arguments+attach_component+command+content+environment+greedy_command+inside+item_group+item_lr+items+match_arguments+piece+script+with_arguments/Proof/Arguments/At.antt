@@ -2,15 +2,15 @@
 use Prim.Native.Nat.{ℕ}
 use borrow.Fn.Kinds.{In, Dens, Plain}
 use contract.Lifetimes.{Lfts}
-use Rattle.routines.proofs.state.Step.again.Reads as again-reads
+use Rattle.state.proofs.Step.again.Reads as again-reads
 use Rattle.parser.proofs.arg.Reads as arg
 use Rattle.lexer.proofs.char_len.Reads as char-len-reads
-use Rattle.routines.proofs.character.Reads as character-reads
+use Rattle.clauses.proofs.character.Reads as character-reads
 use Rattle.items.proofs.choose.Reads as choose-reads
 use Rattle.routines.proofs.hold_trivia.Reads as hold-trivia-reads
 use Rattle.lexer.proofs.cursor.Lexer.peek.Reads as peek-reads
 use Rattle.lexer.proofs.cursor.Lexer.peek_text.Reads as peek-text-reads
-use Rattle.routines.proofs.state.Parser.scope.Reads as scope-reads
+use Rattle.state.proofs.Parser.scope.Reads as scope-reads
 use Rattle.arg_match.proofs.ArgMatcher.try_match.Reads as try-match-reads
 use Rattle.parser.proofs.arguments.Reads as own
 use Rattle.parser.proofs.+arg+arguments+attach_component+command+content+environment+greedy_command+inside+item_group+item_lr+items+match_arguments+piece+script+with_arguments as cycle

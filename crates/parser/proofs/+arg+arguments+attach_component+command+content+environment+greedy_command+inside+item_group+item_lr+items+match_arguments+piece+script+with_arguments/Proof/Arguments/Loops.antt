@@ -3,9 +3,9 @@ use Rattle.parser.proofs.+arg+arguments+attach_component+command+conten
 use cycle.Lts-arguments as lts
 use Rattle.rules.specs.Matcher.{Matcher}
 use Rattle.arg_match.specs.Answers.{matcherOf}
-use Rattle.routines.specs.Contract.{leftOf}
-use Rattle.routines.specs.Stands.{Buffers}
-use Rattle.routines.specs.declared.state.Parser.{Parser}
+use Rattle.state.specs.Contract.{leftOf}
+use Rattle.state.specs.Stands.{Buffers}
+use Rattle.state.specs.declared.Parser.{Parser}
 use Rattle.parser.specs.Member.{tables, buffers}
 use Rattle.parser.proofs.ArgumentLoop.{Far}
 use Rattle.parser.proofs.WordLoop.{Taking}

@@ -3,12 +3,12 @@ use Prim.Native.Nat.{ℕ}
 use borrow.Fn.Kinds.{In, Dens, Plain}
 use contract.Lifetimes.{Lfts}
 use Rattle.routines.proofs.eat.Reads as eat-reads
-use Rattle.routines.proofs.state.Parser.finish_node.Reads as finish-node-reads
+use Rattle.state.proofs.Parser.finish_node.Reads as finish-node-reads
 use Rattle.builder.proofs.GreenNodeBuilder.frame.Reads as frame-reads
-use Rattle.routines.proofs.state.Mark.is_nothing.Reads as is-nothing-reads
-use Rattle.routines.proofs.state.Parser.list_last.Reads as list-last-reads
+use Rattle.state.proofs.Mark.is_nothing.Reads as is-nothing-reads
+use Rattle.state.proofs.Parser.list_last.Reads as list-last-reads
 use Rattle.parser.proofs.script.Reads as script
-use Rattle.routines.proofs.start_around.Reads as start-around-reads
+use Rattle.clauses.proofs.start_around.Reads as start-around-reads
 use Rattle.parser.proofs.attach_component.Reads as own
 use Rattle.parser.proofs.+arg+arguments+attach_component+command+content+environment+greedy_command+inside+item_group+item_lr+items+match_arguments+piece+script+with_arguments as cycle
 use cycle.Lts-attach_component as lts

@@ -4,16 +4,16 @@ use borrow.Fn.Kinds.{In, Dens, Plain}
 use contract.Lifetimes.{Lfts}
 use Rattle.parser.proofs.greedy_command.Reads as greedy-command
 use Rattle.arg_match.proofs.ArgMatcher.is_greedy.Reads as is-greedy-reads
-use Rattle.routines.proofs.left1_command.Reads as left1-command-reads
-use Rattle.routines.proofs.state.Parser.list_last.Reads as list-last-reads
-use Rattle.routines.proofs.state.Parser.list_start.Reads as list-start-reads
+use Rattle.clauses.proofs.left1_command.Reads as left1-command-reads
+use Rattle.state.proofs.Parser.list_last.Reads as list-last-reads
+use Rattle.state.proofs.Parser.list_start.Reads as list-start-reads
 use Rattle.items.proofs.shape.Shape.matcher.Reads as matcher-reads
 use Rattle.items.proofs.shape.Shape.name_only.Reads as name-only-reads
 use Rattle.items.proofs.shape.Shape.of_class.Reads as of-class-reads
 use Rattle.items.proofs.shape.Shape.of_token.Reads as of-token-reads
 use Rattle.routines.proofs.one_in.Reads as one-in-reads
 use Rattle.parser.proofs.with_arguments.Reads as with-arguments
-use Rattle.routines.proofs.state.Parser.with_marks.Reads as with-marks-reads
+use Rattle.state.proofs.Parser.with_marks.Reads as with-marks-reads
 use Rattle.parser.proofs.command.Reads as own
 use Rattle.parser.proofs.+arg+arguments+attach_component+command+content+environment+greedy_command+inside+item_group+item_lr+items+match_arguments+piece+script+with_arguments as cycle
 use cycle.Lts-command as lts

@@ -2,7 +2,7 @@
 use Prim.Native.Nat.{ℕ}
 use borrow.Fn.Kinds.{In, Dens, Plain}
 use contract.Lifetimes.{Lfts}
-use Rattle.routines.proofs.state.Step.again.Reads as again-reads
+use Rattle.state.proofs.Step.again.Reads as again-reads
 use Rattle.parser.proofs.attach_component.Reads as attach-component
 use Rattle.lexer.proofs.cell.Reads as cell-reads
 use Rattle.parser.proofs.command.Reads as command
@@ -12,8 +12,8 @@ use Rattle.parser.proofs.item_group.Reads as item-group
 use Rattle.parser.proofs.item_lr.Reads as item-lr
 use Rattle.items.proofs.item_of.Reads as item-of-reads
 use Rattle.routines.proofs.one_in.Reads as one-in-reads
-use Rattle.routines.proofs.skipped_body.Reads as skipped-body-reads
-use Rattle.routines.proofs.text.Reads as text-reads
+use Rattle.skipped.proofs.skipped_body.Reads as skipped-body-reads
+use Rattle.clauses.proofs.text.Reads as text-reads
 use Rattle.parser.proofs.content.Reads as own
 use Rattle.parser.proofs.+arg+arguments+attach_component+command+content+environment+greedy_command+inside+item_group+item_lr+items+match_arguments+piece+script+with_arguments as cycle
 use cycle.Lts-content as lts

@@ -2,13 +2,13 @@
 use Prim.Native.Nat.{ℕ}
 use borrow.Fn.Kinds.{In, Dens, Plain}
 use contract.Lifetimes.{Lfts}
-use Rattle.routines.proofs.end_clause.Reads as end-clause-reads
-use Rattle.routines.proofs.state.Parser.finish_node.Reads as finish-node-reads
+use Rattle.clauses.proofs.end_clause.Reads as end-clause-reads
+use Rattle.state.proofs.Parser.finish_node.Reads as finish-node-reads
 use Rattle.builder.proofs.GreenNodeBuilder.frame.Reads as frame-reads
 use Rattle.parser.proofs.inside.Reads as inside
 use Rattle.items.proofs.shape.Shape.of_class.Reads as of-class-reads
 use Rattle.items.proofs.shape.Shape.of_token.Reads as of-token-reads
-use Rattle.routines.proofs.state.Parser.start_node.Reads as start-node-reads
+use Rattle.state.proofs.Parser.start_node.Reads as start-node-reads
 use Rattle.parser.proofs.with_arguments.Reads as with-arguments
 use Rattle.parser.proofs.environment.Reads as own
 use Rattle.parser.proofs.+arg+arguments+attach_component+command+content+environment+greedy_command+inside+item_group+item_lr+items+match_arguments+piece+script+with_arguments as cycle

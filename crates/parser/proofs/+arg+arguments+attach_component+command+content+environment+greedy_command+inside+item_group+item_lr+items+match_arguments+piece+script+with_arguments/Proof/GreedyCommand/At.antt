@@ -3,11 +3,11 @@ use Prim.Native.Nat.{ℕ}
 use borrow.Fn.Kinds.{In, Dens, Plain}
 use contract.Lifetimes.{Lfts}
 use Rattle.routines.proofs.eat.Reads as eat-reads
-use Rattle.routines.proofs.state.Parser.finish_node.Reads as finish-node-reads
+use Rattle.state.proofs.Parser.finish_node.Reads as finish-node-reads
 use Rattle.builder.proofs.GreenNodeBuilder.frame.Reads as frame-reads
 use Rattle.parser.proofs.inside.Reads as inside
-use Rattle.routines.proofs.start_around.Reads as start-around-reads
-use Rattle.routines.proofs.state.Parser.start_node.Reads as start-node-reads
+use Rattle.clauses.proofs.start_around.Reads as start-around-reads
+use Rattle.state.proofs.Parser.start_node.Reads as start-node-reads
 use Rattle.parser.proofs.greedy_command.Reads as own
 use Rattle.parser.proofs.+arg+arguments+attach_component+command+content+environment+greedy_command+inside+item_group+item_lr+items+match_arguments+piece+script+with_arguments as cycle
 use cycle.Lts-greedy_command as lts

@@ -5,11 +5,11 @@ use contract.Lifetimes.{Lfts}
 use Rattle.items.proofs.closer.Reads as closer-reads
 use Rattle.routines.proofs.eat_if.Reads as eat-if-reads
 use Rattle.routines.proofs.eat.Reads as eat-reads
-use Rattle.routines.proofs.state.Parser.finish_node.Reads as finish-node-reads
+use Rattle.state.proofs.Parser.finish_node.Reads as finish-node-reads
 use Rattle.builder.proofs.GreenNodeBuilder.frame.Reads as frame-reads
 use Rattle.items.proofs.group_kind.Reads as group-kind-reads
 use Rattle.parser.proofs.inside.Reads as inside
-use Rattle.routines.proofs.state.Parser.start_node.Reads as start-node-reads
+use Rattle.state.proofs.Parser.start_node.Reads as start-node-reads
 use Rattle.parser.proofs.item_group.Reads as own
 use Rattle.parser.proofs.+arg+arguments+attach_component+command+content+environment+greedy_command+inside+item_group+item_lr+items+match_arguments+piece+script+with_arguments as cycle
 use cycle.Lts-item_group as lts

@@ -2,7 +2,7 @@
 use Prim.Native.Nat.{ℕ}
 use borrow.Fn.Kinds.{In, Dens, Plain}
 use contract.Lifetimes.{Lfts}
-use Rattle.routines.proofs.state.Step.again.Reads as again-reads
+use Rattle.state.proofs.Step.again.Reads as again-reads
 use Rattle.parser.proofs.lists.behind.Reads as behind-reads
 use Rattle.parser.proofs.content.Reads as content
 use Rattle.parser.proofs.lists.more_items.Reads as more-items-reads

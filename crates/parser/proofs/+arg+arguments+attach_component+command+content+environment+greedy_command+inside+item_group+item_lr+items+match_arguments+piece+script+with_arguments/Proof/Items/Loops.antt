@@ -1,7 +1,7 @@
 -- The invariants and the measures of the loops of `items`.
 use Rattle.parser.proofs.+arg+arguments+attach_component+command+content+environment+greedy_command+inside+item_group+item_lr+items+match_arguments+piece+script+with_arguments as cycle
 use cycle.Lts-items as lts
-use Rattle.routines.specs.Contract.{leftOf}
+use Rattle.state.specs.Contract.{leftOf}
 use Rattle.parser.specs.Member.{tables, buffers}
 use Rattle.parser.proofs.ItemLoop.{Loop}
 

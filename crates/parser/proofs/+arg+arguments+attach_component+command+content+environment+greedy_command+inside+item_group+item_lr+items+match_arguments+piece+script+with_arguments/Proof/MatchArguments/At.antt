@@ -2,15 +2,15 @@
 use Prim.Native.Nat.{ℕ}
 use borrow.Fn.Kinds.{In, Dens, Plain}
 use contract.Lifetimes.{Lfts}
-use Rattle.routines.proofs.state.Step.again.Reads as again-reads
+use Rattle.state.proofs.Step.again.Reads as again-reads
 use Rattle.parser.proofs.arguments.Reads as arguments
-use Rattle.routines.proofs.state.Parser.holding_none.Reads as holding-none-reads
+use Rattle.state.proofs.Parser.holding_none.Reads as holding-none-reads
 use Rattle.arg_match.proofs.ArgMatcher.is_greedy.Reads as is-greedy-reads
-use Rattle.routines.proofs.state.Parser.list_last.Reads as list-last-reads
-use Rattle.routines.proofs.state.Parser.list_start.Reads as list-start-reads
+use Rattle.state.proofs.Parser.list_last.Reads as list-last-reads
+use Rattle.state.proofs.Parser.list_start.Reads as list-start-reads
 use Rattle.items.proofs.shape.Shape.matcher.Reads as matcher-reads
 use Rattle.items.proofs.shape.Shape.name_only.Reads as name-only-reads
-use Rattle.routines.proofs.state.Parser.with_marks.Reads as with-marks-reads
+use Rattle.state.proofs.Parser.with_marks.Reads as with-marks-reads
 use Rattle.parser.proofs.match_arguments.Reads as own
 use Rattle.parser.proofs.+arg+arguments+attach_component+command+content+environment+greedy_command+inside+item_group+item_lr+items+match_arguments+piece+script+with_arguments as cycle
 use cycle.Lts-match_arguments as lts

@@ -2,7 +2,7 @@
 use Prim.Native.Nat.{ℕ}
 use borrow.Fn.Kinds.{In, Dens, Plain}
 use contract.Lifetimes.{Lfts}
-use Rattle.routines.proofs.state.Step.again.Reads as again-reads
+use Rattle.state.proofs.Step.again.Reads as again-reads
 use Rattle.parser.proofs.inside.Reads as inside
 use Rattle.routines.proofs.trivia.Reads as trivia-reads
 use Rattle.routines.proofs.word_character.Reads as word-character-reads

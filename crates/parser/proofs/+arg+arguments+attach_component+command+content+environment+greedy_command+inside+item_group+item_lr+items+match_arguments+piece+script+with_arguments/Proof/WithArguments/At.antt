@@ -4,10 +4,10 @@ use borrow.Fn.Kinds.{In, Dens, Plain}
 use contract.Lifetimes.{Lfts}
 use Rattle.routines.proofs.eat.Reads as eat-reads
 use Rattle.routines.proofs.extract_holding_trivia.Reads as extract-holding-trivia-reads
-use Rattle.routines.proofs.state.Parser.finish_node.Reads as finish-node-reads
+use Rattle.state.proofs.Parser.finish_node.Reads as finish-node-reads
 use Rattle.builder.proofs.GreenNodeBuilder.frame.Reads as frame-reads
 use Rattle.parser.proofs.match_arguments.Reads as match-arguments
-use Rattle.routines.proofs.state.Parser.start_node.Reads as start-node-reads
+use Rattle.state.proofs.Parser.start_node.Reads as start-node-reads
 use Rattle.parser.proofs.with_arguments.Reads as own
 use Rattle.parser.proofs.+arg+arguments+attach_component+command+content+environment+greedy_command+inside+item_group+item_lr+items+match_arguments+piece+script+with_arguments as cycle
 use cycle.Lts-with_arguments as lts

@@ -7,6 +7,15 @@ slice-known→entry c = c .before .before
 abbrev pub rest-start→entry : tie.After-rest-start → tie.Start
 rest-start→entry c = c .before .before .before
 
+abbrev pub leaf→rest-length : tie.After-leaf → tie.After-rest-length
+leaf→rest-length c = c .before .before
+
+abbrev pub leaf→rest-start : tie.After-leaf → tie.After-rest-start
+leaf→rest-start c = c .before .before .before
+
+abbrev pub leaf→entry : tie.After-leaf → tie.Start
+leaf→entry c = rest-start→entry (leaf→rest-start c)
+
 abbrev pub known-told→written : tie.After-known-told → tie.After-written
 known-told→written c = c .before
 
@@ -14,19 +23,10 @@ abbrev pub known-told→leaf : tie.After-known-told → tie.After-leaf
 known-told→leaf c = c .before .before .before .before .before
 
 abbrev pub known-told→entry : tie.After-known-told → tie.Start
-known-told→entry c = c .before .before .before .before .before .before .before .before .before .before .before
+known-told→entry c = leaf→entry (known-told→leaf c)
 
 abbrev pub returns→leaf : tie.After-enum-told → tie.After-leaf
 returns→leaf c = c .before .before .before .before
-
-abbrev pub returns→rest-length : tie.After-enum-told → tie.After-rest-length
-returns→rest-length c = c .before .before .before .before .before .before
-
-abbrev pub returns→rest-start : tie.After-enum-told → tie.After-rest-start
-returns→rest-start c = c .before .before .before .before .before .before .before
-
-abbrev pub returns→entry : tie.After-enum-told → tie.Start
-returns→entry c = rest-start→entry (returns→rest-start c)
 
 abbrev pub returns-2→eat : tie.After-with-lexer → tie.After-eat
 returns-2→eat c = c .before
@@ -37,11 +37,5 @@ returns-2→written c = c .before .before .before
 abbrev pub returns-2→leaf : tie.After-with-lexer → tie.After-leaf
 returns-2→leaf c = c .before .before .before .before .before .before .before
 
-abbrev pub returns-2→rest-length : tie.After-with-lexer → tie.After-rest-length
-returns-2→rest-length c = c .before .before .before .before .before .before .before .before .before
-
-abbrev pub returns-2→rest-start : tie.After-with-lexer → tie.After-rest-start
-returns-2→rest-start c = c .before .before .before .before .before .before .before .before .before .before
-
 abbrev pub returns-2→entry : tie.After-with-lexer → tie.Start
-returns-2→entry c = rest-start→entry (returns-2→rest-start c)
+returns-2→entry c = leaf→entry (returns-2→leaf c)

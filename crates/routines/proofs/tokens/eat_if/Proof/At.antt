@@ -28,14 +28,8 @@ returns-2→peeked c = c .before .before .before .before .before .before
 abbrev pub returns-2→peek : tie.After-slice-known2 → tie.After-peek
 returns-2→peek c = c .before .before .before .before .before .before .before .before
 
-abbrev pub returns-2→entry : tie.After-slice-known2 → tie.Start
-returns-2→entry c = c .before .before .before .before .before .before .before .before .before .before .before
-
 abbrev pub returns-3→peeked : tie.Else1 → tie.After-peeked
 returns-3→peeked c = c .before .before
 
 abbrev pub returns-3→peek : tie.Else1 → tie.After-peek
 returns-3→peek c = c .before .before .before .before
-
-abbrev pub returns-3→entry : tie.Else1 → tie.Start
-returns-3→entry c = c .before .before .before .before .before .before .before

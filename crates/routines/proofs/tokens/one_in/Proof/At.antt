@@ -4,12 +4,6 @@ use Rattle.routines.proofs.tokens.one_in.Tie as tie
 abbrev pub start-node→entry : tie.After-start-node → tie.Start
 start-node→entry c = c .before .before .before .before
 
-abbrev pub opened→start-node : tie.After-opened → tie.After-start-node
-opened→start-node c = c .before .before .before .before
-
-abbrev pub opened→entry : tie.After-opened → tie.Start
-opened→entry c = start-node→entry (opened→start-node c)
-
 abbrev pub returns→start-node : tie.After-enum-told → tie.After-start-node
 returns→start-node c = c .before .before .before .before
 
@@ -17,7 +11,7 @@ abbrev pub eat-arg→opened : tie.After-eat-arg → tie.After-opened
 eat-arg→opened c = c .before .before
 
 abbrev pub eat-arg→start-node : tie.After-eat-arg → tie.After-start-node
-eat-arg→start-node c = opened→start-node (eat-arg→opened c)
+eat-arg→start-node c = c .before .before .before .before .before .before
 
 abbrev pub eat-arg→entry : tie.After-eat-arg → tie.Start
 eat-arg→entry c = start-node→entry (eat-arg→start-node c)
@@ -26,7 +20,7 @@ abbrev pub eat→opened : tie.After-eat → tie.After-opened
 eat→opened c = c .before .before .before
 
 abbrev pub eat→start-node : tie.After-eat → tie.After-start-node
-eat→start-node c = opened→start-node (eat→opened c)
+eat→start-node c = c .before .before .before .before .before .before .before
 
 abbrev pub eat→entry : tie.After-eat → tie.Start
 eat→entry c = start-node→entry (eat→start-node c)

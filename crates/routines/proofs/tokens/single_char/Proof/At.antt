@@ -10,6 +10,15 @@ leaf-arg→char-len c = c .before .before
 abbrev pub leaf-arg→entry : tie.After-leaf-arg → tie.Start
 leaf-arg→entry c = char-len→entry (leaf-arg→char-len c)
 
+abbrev pub leaf→rest-start : tie.After-leaf → tie.After-rest-start
+leaf→rest-start c = c .before .before
+
+abbrev pub leaf→char-len : tie.After-leaf → tie.After-char-len
+leaf→char-len c = c .before .before .before
+
+abbrev pub leaf→entry : tie.After-leaf → tie.Start
+leaf→entry c = char-len→entry (leaf→char-len c)
+
 abbrev pub known-told→written : tie.After-known-told → tie.After-written
 known-told→written c = c .before
 
@@ -17,19 +26,10 @@ abbrev pub known-told→leaf : tie.After-known-told → tie.After-leaf
 known-told→leaf c = c .before .before .before .before .before
 
 abbrev pub known-told→entry : tie.After-known-told → tie.Start
-known-told→entry c = c .before .before .before .before .before .before .before .before .before .before .before .before
+known-told→entry c = leaf→entry (known-told→leaf c)
 
 abbrev pub returns→leaf : tie.After-enum-told → tie.After-leaf
 returns→leaf c = c .before .before .before .before
-
-abbrev pub returns→rest-start : tie.After-enum-told → tie.After-rest-start
-returns→rest-start c = c .before .before .before .before .before .before
-
-abbrev pub returns→char-len : tie.After-enum-told → tie.After-char-len
-returns→char-len c = c .before .before .before .before .before .before .before
-
-abbrev pub returns→entry : tie.After-enum-told → tie.Start
-returns→entry c = char-len→entry (returns→char-len c)
 
 abbrev pub returns-2→consume-utf8-bytes : tie.After-with-lexer → tie.After-consume-utf8-bytes
 returns-2→consume-utf8-bytes c = c .before
@@ -40,11 +40,8 @@ returns-2→written c = c .before .before .before
 abbrev pub returns-2→leaf : tie.After-with-lexer → tie.After-leaf
 returns-2→leaf c = c .before .before .before .before .before .before .before
 
-abbrev pub returns-2→rest-start : tie.After-with-lexer → tie.After-rest-start
-returns-2→rest-start c = c .before .before .before .before .before .before .before .before .before
-
 abbrev pub returns-2→char-len : tie.After-with-lexer → tie.After-char-len
-returns-2→char-len c = c .before .before .before .before .before .before .before .before .before .before
+returns-2→char-len c = leaf→char-len (returns-2→leaf c)
 
 abbrev pub returns-2→entry : tie.After-with-lexer → tie.Start
 returns-2→entry c = char-len→entry (returns-2→char-len c)

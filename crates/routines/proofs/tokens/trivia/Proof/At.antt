@@ -44,11 +44,11 @@ module _ {Inv : tie.InvT-loop} {μ : tie.MeasureT-loop} where
   abbrev pub known-told→entry : tie.After-known-told Inv μ → tie.Start Inv μ
   known-told→entry c = c .before .before .before .before .before .before .before .before .before .before .before .before
 
-  abbrev pub returns→eat : tie.After-enum-told Inv μ → tie.After-eat Inv μ
-  returns→eat c = c .before .before .before .before
-
   abbrev pub told→eat : tie.After-enum-told Inv μ → tie.After-eat Inv μ
   told→eat c = c .before .before .before .before
+
+  abbrev pub returns→eat : tie.After-enum-told Inv μ → tie.After-eat Inv μ
+  returns→eat c = c .before .before .before .before
 
   abbrev pub returns→then1 : tie.After-enum-told Inv μ → tie.Then1 Inv μ
   returns→then1 c = c .before .before .before .before .before .before
@@ -56,11 +56,11 @@ module _ {Inv : tie.InvT-loop} {μ : tie.MeasureT-loop} where
   abbrev pub returns→more-trivia : tie.After-enum-told Inv μ → tie.After-more-trivia Inv μ
   returns→more-trivia c = c .before .before .before .before .before .before .before
 
-  abbrev pub returns→loop : tie.After-enum-told Inv μ → tie.At-loop Inv μ
-  returns→loop c = c .before .before .before .before .before .before .before .before
-
   abbrev pub told→loop : tie.After-enum-told Inv μ → tie.At-loop Inv μ
   told→loop c = c .before .before .before .before .before .before .before .before
+
+  abbrev pub returns→loop : tie.After-enum-told Inv μ → tie.At-loop Inv μ
+  returns→loop c = c .before .before .before .before .before .before .before .before
 
   abbrev pub told→entry : tie.After-enum-told Inv μ → tie.Start Inv μ
   told→entry c = c .before .before .before .before .before .before .before .before .before .before .before

@@ -1,0 +1,2 @@
+-- What the proofs of several functions use, here and in the cycle.
+pub mod ArgumentNode

@@ -1,0 +1,119 @@
+-- The builder's operations on the parser's state: the rule's outcome is the builder's with all else as it was, and what the builder tells of its
+-- numbers is what a routine lives on. Assumes nothing.
+use mathlib.Core.Path.{_≡_, refl, _∙_}
+use mathlib.Core.List.{List}
+use Prim.Native.Nat.{ℕ, _*_, _≤_}
+use native.Mathlib.Omega.{arith}
+use lib.ListN.{length, drop}
+use Rattle.rules.specs.Outcome.{Out, went, bind}
+use Rattle.rules.specs.Flat as flat
+use Rattle.rules.specs.Position as spec
+use Rattle.rules.specs.Checks.{Tables}
+use Rattle.builder.specs.Stands as shown
+use Rattle.builder.specs.Contract as told
+use Rattle.builder.specs.declared.GreenNodeBuilder.{GreenNodeBuilder}
+use Rattle.builder.specs.declared.Built.{Built}
+use Rattle.builder.specs.declared.Built.the-variants as built
+use Rattle.builder.proofs.Facts as facts
+use Rattle.state.specs.Stands.{Buffers, Here, posOf, outOf}
+use Rattle.state.specs.Change.{rebuilt, buildingOf}
+use Rattle.state.specs.Contract.{MarkOk, Steady, Passed, Leafed, Begun, Ended, Gone, Told, Opens, Closes}
+use Rattle.state.specs.declared.KeptMark.{KeptMark}
+use Rattle.state.specs.declared.Parser.{Parser}
+use Rattle.state.specs.declared.Step.{Step}
+use Rattle.state.proofs.Walk.{passing}
+
+-- a mark is good for more rows too
+pub mark-more : (m : KeptMark) (b u : GreenNodeBuilder) → b .rows ≤ u .rows → MarkOk m b → MarkOk m u
+mark-more m b u more ok = record { children = ok .children; row = omega arith }
+
+module _ (p : Parser) (t v notes : List ℕ) where
+  abbrev before : Buffers
+  before = record { tree = t; dropped = notes }
+
+  abbrev after : Buffers
+  after = record { tree = v; dropped = notes }
+
+  -- the rule's outcome at p, from the builder's
+  outcome : (o : Out flat.Rows) (x : Built) → o ≡ shown.outOf x v
+      → bind (flat.onTree (posOf p before .built) o) (λ b. went (spec.withBuilt (flat.flat 0) (posOf p before) b)) ≡ outOf (buildingOf p x) after
+  outcome o (built.Went u) e = rw e
+  outcome o (built.Refused number place) e = rw e
+
+  -- what the answer leaves, from what the builder leaves
+  goes : (Q : Parser → Type 0) (x : Built) → ((u : GreenNodeBuilder) → x ≡ built.Went u → Q (rebuilt p u)) → Gone Q (buildingOf p x)
+  goes Q (built.Went u) f = f u refl
+  goes Q (built.Refused number place) f = tt
+
+  -- a routine that ends in `building`
+  pub built-told : {Q : Parser → Type 0} {r : Step} {x : Built} (rule : ℕ → Here → Out Here) (o : Out flat.Rows) → r ≡ buildingOf p x
+      → o ≡ shown.outOf x v
+      → rule (length t) (posOf p before) ≡ bind (flat.onTree (posOf p before .built) o) (λ b. went (spec.withBuilt (flat.flat 0) (posOf p before) b))
+      → ((u : GreenNodeBuilder) → x ≡ built.Went u → Q (rebuilt p u)) → Told rule Q p before r after
+  built-told {Q} {r} {x} rule o e is same f =
+      rw e (record { is = same ∙ outcome o x is; gone = goes Q x f })
+
+  -- the same tables, lists and tokens, with more rows
+  pub steadier : {tables : Tables} (u : GreenNodeBuilder) → Steady tables p before → told.Fits u v → p .builder .rows ≤ u .rows
+      → u .leaves ≡ p .builder .leaves → Steady tables (rebuilt p u) after
+  steadier u s fits more leaves =
+      record {
+        good = s .good;
+        fine = s .fine;
+        token = s .token;
+        fits = fits;
+        start = mark-more (p .list .start) (p .builder) u more (s .start);
+        last = mark-more (p .list .last) (p .builder) u more (s .last);
+        dropped = s .dropped;
+        notes = s .notes;
+        light = let bound = s .light in omega arith;
+      }
+
+  pub on-the-way : {tables : Tables} (u : GreenNodeBuilder) → length v ≡ length t → drop (u .rows * 4) v ≡ drop (u .rows * 4) t
+      → p .builder .rows ≤ u .rows → u .leaves ≡ p .builder .leaves
+      → Passed tables 0 p before (rebuilt p u) after
+  on-the-way u long rest more leaves = passing rest refl long refl (omega arith)
+
+  pub begun : {tables : Tables} (u : GreenNodeBuilder) → length v ≡ length t → Steady tables p before → facts.Opens (p .builder) t u v
+      → Begun tables p before (rebuilt p u) after
+  begun u long s f =
+      let rows = f .rows in
+      record {
+        passed = on-the-way u long (f .rest) (omega arith) (f .leaves);
+        ready = record { steady = steadier u s (f .fits) (omega arith) (f .leaves); within = f .within };
+        few = f .few;
+        depth = f .depth;
+        list = refl;
+        lexer = refl;
+      }
+
+  pub ended : {tables : Tables} (u : GreenNodeBuilder) (frame : flat.Frame) → length v ≡ length t → Steady tables p before
+      → facts.Closes (p .builder) t frame u v
+      → Ended tables (frame .first) (frame .node) p before (rebuilt p u) after
+  ended u frame long s f =
+      let rows = f .rows in
+      record {
+        passed = on-the-way u long (f .rest) (omega arith) (f .leaves);
+        steady = steadier u s (f .fits) (omega arith) (f .leaves);
+        depth = f .depth;
+        first-is = f .first;
+        node-is = f .node;
+        list = refl;
+        lexer = refl;
+      }
+
+  pub leafed : (u : GreenNodeBuilder) → facts.Leafs (p .builder) t u v → Leafed p t (rebuilt p u) v
+  leafed u f =
+      record {
+        rest = f .rest;
+        fits = f .fits;
+        rows = f .rows;
+        leaves = f .leaves;
+        depth = f .depth;
+        first = f .first;
+        node = f .node;
+        lexer = refl;
+        held = refl;
+        list = refl;
+        dropped = refl;
+      }
