@@ -216,15 +216,21 @@ impl Parser {
         next
     }
 
-    // What the builder came to, with all else as it is.
+    // What the builder came to, with all else as it is. Written by its fields: a copy of the state that is changed would go through memory.
     fn building(self, built: Built) -> Step
         ensures { λ r. ⌜ r ≡ buildingOf self built ⌝ }
     {
         match built {
             Built::Went(builder) => {
-                let mut next = self;
-                next.builder = builder;
-                Step::Went(next)
+                let lexer = self.lexer;
+                let list = self.list;
+                Step::Went(Parser {
+                    lexer: lexer,
+                    held: self.held,
+                    list: list,
+                    builder: builder,
+                    dropped: self.dropped,
+                })
             }
             Built::Refused(number, place) => Step::Refused(number, place),
         }
