@@ -1,5 +1,5 @@
 # The README's two commands, and the Rust beside the port.
-.PHONY: test run treelist examples ffi ffi-test oracle record oracle-test differ hostile bench
+.PHONY: test run treelist examples ffi library ffi-test oracle record oracle-test differ hostile bench
 
 # The gate: layout, proofs, must-fail edits, programs.
 test:
@@ -7,7 +7,7 @@ test:
 
 # The program treelist, proved, and what it prints of document 01's sheet for `\frac 1 2`. Other sheets lie beside it in examples/.
 run: treelist
-	target/bin/treelist < examples/frac.sheet
+	tools/treelist < examples/frac.sheet
 
 # Proved and built: target/bin/treelist.
 treelist:
@@ -28,6 +28,10 @@ LIBRARY = $(CURDIR)/target/native
 ffi:
 	tools/native
 endif
+
+# The folder that it lies in.
+library:
+	@echo $(LIBRARY)
 
 # The library through its C header and through the safe Rust crate: what both give is compared with what is stored.
 ffi-test: ffi target/ffi/example target/ffi/list
