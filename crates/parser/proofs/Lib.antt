@@ -10,6 +10,6 @@ pub mod Lent
 pub mod ListNode
 pub mod Marks
 pub mod Scripts
-pub mod ShapeArguments
+pub mod Shapes
 pub mod WordLoop
 pub mod FromRoot

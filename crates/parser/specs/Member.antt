@@ -6,13 +6,13 @@ use mathlib.Core.Path.{_≡_}
 use mathlib.Core.List.{List}
 use mathlib.Core.Option.{Option}
 use lib.ListN.{length}
-use Rattle.rules.specs.Checks.{Tables, shapeOf, sourceOf}
+use Rattle.rules.specs.Checks.{Tables, sourceOf}
 use Rattle.rules.specs.Flat.{flat}
-use Rattle.rules.specs.Items.{greedyStops, ofClass}
+use Rattle.rules.specs.Items.{greedyStops}
 use Rattle.rules.specs.Limits.{shapeWidth}
 use Rattle.rules.specs.Matcher.{Matcher}
 use Rattle.rules.specs.Outcome.{Out}
-use Rattle.rules.specs.Position.{Rule, Shape, asked}
+use Rattle.rules.specs.Position.{Rule, asked}
 use Rattle.rules.specs.Reading.{content, contentAt, items, itemList, lastAfter, arguments, greedyItems}
 use Rattle.rules.specs.Routines.{turns}
 use Rattle.rules.specs.Scope.{Scope, stops}
@@ -155,9 +155,3 @@ insideOf t OneItem n inner q = inner false q
 -- the arguments from here on, with turns enough
 abbrev pub allArguments : Tables → Matcher → Inside
 allArguments t m n inner q = arguments (flat n) (sourceOf t) inner (turns (flat n) (sourceOf t) q) m q
-
--- ---- commands
-
--- the shape of the next token, where one of this class is asked for
-abbrev pub shapeIn : Tables → ℕ → Parser → Shape
-shapeIn t class p = ofClass class (shapeOf t (p .lexer .token))

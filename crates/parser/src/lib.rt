@@ -12,7 +12,7 @@ ghost use Rattle.items.specs.Items.{shapeFor, pieceFor};
 ghost use Rattle.state.specs.Contract.{MarkOk, Ready, Holding};
 ghost use Rattle.state.specs.Stands.{keptOf, optionOf};
 ghost use Rattle.syntax.specs.ParseScope.{scopeOf};
-ghost use Rattle.parser.specs.Member.{given, lent, Opened, Stayed, Next, NextIf, gainOf, itemsOf, insideOf, allArguments, shapeIn};
+ghost use Rattle.parser.specs.Member.{given, lent, Opened, Stayed, Next, NextIf, gainOf, itemsOf, insideOf, allArguments};
 use arg_match::ArgMatcher;
 use arg_match::Argument;
 use arg_match::Tried;
@@ -400,7 +400,8 @@ fn command(
 ) -> Step
     requires { let t = given text tokens shapes states in ⌜ Ready t p (lent tree dropped) × Next t p ⌝ }
     ensures { λ r. ⌜
-        Opened text tokens shapes states tree dropped p r 1 (λ t n inner. spec.commandOf (flat n) (sourceOf t) inner (shapeIn t classCommand p)) ⌝ }
+        Opened text tokens shapes states tree dropped p r 1
+        (λ t n inner q. spec.commandOf (flat n) (sourceOf t) inner (spec.shapeHere (flat n) (sourceOf t) classCommand q) q) ⌝ }
 {
     let shape = Shape::of_token(tokens, shapes, p.lexer.token).of_class(Class::COMMAND);
     if shape.name_only() {

@@ -16,8 +16,9 @@ use Rattle.clauses.proofs.ArgumentNode.{framed}
 use Rattle.routines.proofs.HeldLaws.{droppable}
 use Rattle.state.proofs.Turn.{calls, opening, closing, done, begins-in, still-next}
 use Rattle.state.proofs.Walk.{Rule, line, begins, closes}
-use Rattle.parser.specs.Member.{tables, buffers, innerAt}
+use Rattle.parser.specs.Member.{innerAt, given, lent}
 use Rattle.parser.proofs.Cycle.{below, TurnedBy}
+use Rattle.parser.proofs.Lent.{of-tree, of-dropped}
 use Rattle.parser.proofs.arg.Reads as own
 use Rattle.parser.proofs.+arg+arguments+attach_component+command+content+environment+greedy_command+inside+item_group+item_lr+items+match_arguments+piece+script+with_arguments as cycle
 use cycle.Lts-arg as lts
@@ -26,10 +27,10 @@ mod At
 use At.*
 
 abbrev T : {t : ℕ} → Start t → Tables
-T b = tables (b .args .text .now) (b .args .tokens .now) (b .args .shapes .now) (b .args .states .now)
+T b = given (b .args .text) (b .args .tokens) (b .args .shapes) (b .args .states)
 
 abbrev M : {t : ℕ} → Start t → Buffers
-M b = buffers (b .args .tree .now) (b .args .dropped .now)
+M b = lent (b .args .tree) (b .args .dropped)
 
 -- the rule, as the steps that are left of it
 abbrev plan : {t : ℕ} → Start t → List Rule
@@ -54,14 +55,14 @@ begun c =
     (c .begin-argument .kept .0) (c .begin-argument .kept .1 .0)
 
 taken : {t : ℕ} (c : Place lts.After-piece t)
-    → Turned (piece→entry c) 2 1 1 (c .piece .result) (c .piece .last .1 .1 .1 .1 .0) (c .piece .last .1 .1 .1 .1 .1 .0)
+    → Turned (piece→entry c) 2 1 1 (c .piece .result) (of-tree (c .piece .last)) (of-dropped (c .piece .last))
 unfolding spec.contentAt
 taken c =
     let w = begun (piece→begin-argument c) .went (piece→opened c .opened .given .1) in
-    calls w (below (omega arith) (c .piece .ensures)) (c .piece .kept .1 .1 .1 .1 .0) (c .piece .kept .1 .1 .1 .1 .1 .0)
+    calls w (below (omega arith) (c .piece .ensures)) (of-tree (c .piece .kept)) (of-dropped (c .piece .kept))
 
 ended : {t : ℕ} (c : Place lts.After-end-argument t)
-    → Turned (end-argument→entry c) 3 1 0 (c .end-argument .result) (c .end-argument .last .0) (end-argument→piece c .piece .last .1 .1 .1 .1 .1 .0)
+    → Turned (end-argument→entry c) 3 1 0 (c .end-argument .result) (c .end-argument .last .0) (of-dropped (end-argument→piece c .piece .last))
 ended c =
     closing (end-argument→entry c .pre .1 .0) (taken (end-argument→piece c) .went (end-argument→taken c .taken .given .1))
     (closes (framed _ (c .before .frame .ensures) (c .end-argument .ensures _) _)) (c .end-argument .kept .0) refl

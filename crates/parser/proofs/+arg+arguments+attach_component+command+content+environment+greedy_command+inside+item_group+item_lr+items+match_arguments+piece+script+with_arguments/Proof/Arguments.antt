@@ -15,8 +15,9 @@ use Rattle.arg_match.specs.Answers.{matcherOf, triedOf}
 use Rattle.items.specs.Items.{choiceFor}
 use Rattle.items.specs.declared.choice.Choice.{Choice}
 use Rattle.state.specs.Stands.{Buffers}
-use Rattle.parser.specs.Member.{Next, tables, buffers}
+use Rattle.parser.specs.Member.{Next, buffers, given, lent}
 use Rattle.parser.proofs.ArgumentLoop.{Chosen, at-end, by-kind, arguments-begin, arguments-end, arguments-hold, arguments-hold-less, arguments-stop, arguments-take, arguments-take-less}
+use Rattle.parser.proofs.Lent.{of-tree, of-dropped}
 use Rattle.parser.proofs.WordLoop.{Taking, taking-begins, taking-ends, taking-known, taking-stops, taking-less, taking-goes-on}
 use Rattle.parser.proofs.arguments.Reads as own
 use Rattle.parser.proofs.+arg+arguments+attach_component+command+content+environment+greedy_command+inside+item_group+item_lr+items+match_arguments+piece+script+with_arguments as cycle
@@ -28,10 +29,10 @@ mod At
 use At.*
 
 abbrev T : {t : ℕ} → Start t → Tables
-T b = tables (b .args .text .now) (b .args .tokens .now) (b .args .shapes .now) (b .args .states .now)
+T b = given (b .args .text) (b .args .tokens) (b .args .shapes) (b .args .states)
 
 abbrev M : {t : ℕ} → Start t → Buffers
-M b = buffers (b .args .tree .now) (b .args .dropped .now)
+M b = lent (b .args .tree) (b .args .dropped)
 
 -- a token is next
 next : {t : ℕ} (c : Place lts.After-peeked t) → Next (T (peeked→entry c)) (peeked→at-arguments c .arguments .now)
@@ -139,8 +140,8 @@ meets t =
     (λ c. search needs)
     (λ c. search needs)
     (λ c κs. search needs)
-    (λ c. again2→arg c .arg .kept .1 .1 .1 .1 .0 ∙ again2→at-arguments c .arguments .inv .walk .passed .tree-long)
-    (λ c. again2→arg c .arg .kept .1 .1 .1 .1 .1 .0 ∙ again2→at-arguments c .arguments .inv .walk .passed .notes-long)
+    (λ c. of-tree (again2→arg c .arg .kept) ∙ again2→at-arguments c .arguments .inv .walk .passed .tree-long)
+    (λ c. of-dropped (again2→arg c .arg .kept) ∙ again2→at-arguments c .arguments .inv .walk .passed .notes-long)
     (λ c.
     rw (c .again2 .ensures) (arguments-stop _ _ _ _ (again2→at-arguments c .arguments .inv) (next (again2→peeked c))
     (chosen-here (again2→choose c) (again2→choice c .choice .given .1)) (again2→arg c .arg .ensures) (c .before .enum-told6 .given)))

@@ -23,9 +23,10 @@ use Rattle.state.specs.declared.Step.{Step}
 use Rattle.state.proofs.Marks.{taken-is, taken-ok}
 use Rattle.state.proofs.Turn.{calls, opening, closing, done, finishes, around, still-next}
 use Rattle.state.proofs.Walk.{Rule, line, begins, ran}
-use Rattle.parser.specs.Member.{tables, buffers, innerAt}
+use Rattle.parser.specs.Member.{innerAt, given, lent}
 use Rattle.parser.proofs.Cycle.{below, runs-as, ran-runs, TurnedBy}
 use Rattle.parser.proofs.Entry.{somehow}
+use Rattle.parser.proofs.Lent.{of-tree, of-dropped}
 use Rattle.parser.proofs.attach_component.Reads as own
 use Rattle.parser.proofs.+arg+arguments+attach_component+command+content+environment+greedy_command+inside+item_group+item_lr+items+match_arguments+piece+script+with_arguments as cycle
 use cycle.Lts-attach_component as lts
@@ -79,10 +80,10 @@ module _ (t : Tables) (has-script : Bool) (p : Parser) (m : Buffers) (n d : ℕ)
 -- ---- what is known at the places
 
 abbrev T : {t : ℕ} → Start t → Tables
-T b = tables (b .args .text .now) (b .args .tokens .now) (b .args .shapes .now) (b .args .states .now)
+T b = given (b .args .text) (b .args .tokens) (b .args .shapes) (b .args .states)
 
 abbrev M : {t : ℕ} → Start t → Buffers
-M b = buffers (b .args .tree .now) (b .args .dropped .now)
+M b = lent (b .args .tree) (b .args .dropped)
 
 -- the rule, as the steps that are left of it
 abbrev plan : {t : ℕ} → Start t → List Rule
@@ -112,14 +113,14 @@ eaten : {t : ℕ} (c : Place lts.After-eat2 t) → Turned (eat2→entry c) 2 1 1
 eaten c = calls (started (eat2→start-around c) .went (eat2→opened c .opened .given .1)) (ran refl (c .eat2 .ensures _)) (c .eat2 .kept .1 .0) refl
 
 scripted : {t : ℕ} (c : Place lts.After-script t)
-    → Turned (script→entry c) 3 1 1 (c .script .result) (c .script .last .1 .1 .1 .1 .0) (c .script .last .1 .1 .1 .1 .1 .0)
+    → Turned (script→entry c) 3 1 1 (c .script .result) (of-tree (c .script .last)) (of-dropped (c .script .last))
 unfolding spec.contentAt
 scripted c =
     let w = eaten (script→eat2 c) .went (script→eaten c .eaten .given .1) in
-    calls w (below (omega arith) (c .script .ensures)) (c .script .kept .1 .1 .1 .1 .0) (c .script .kept .1 .1 .1 .1 .1 .0)
+    calls w (below (omega arith) (c .script .ensures)) (of-tree (c .script .kept)) (of-dropped (c .script .kept))
 
 ended : {t : ℕ} (c : Place lts.After-finish-node t)
-    → Turned (finish-node→entry c) 4 1 0 (c .finish-node .result) (c .finish-node .last .1 .0) (finish-node→script c .script .last .1 .1 .1 .1 .1 .0)
+    → Turned (finish-node→entry c) 4 1 0 (c .finish-node .result) (c .finish-node .last .1 .0) (of-dropped (finish-node→script c .script .last))
 ended c =
     closing (finish-node→entry c .pre .1 .0) (scripted (finish-node→script c) .went (finish-node→scripted c .scripted .given .1))
     (finishes refl (c .before .frame .ensures) (c .finish-node .ensures)) (c .finish-node .kept .1 .0) refl

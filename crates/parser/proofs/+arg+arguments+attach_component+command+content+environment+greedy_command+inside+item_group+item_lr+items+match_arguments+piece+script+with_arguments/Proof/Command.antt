@@ -29,10 +29,11 @@ use Rattle.state.specs.declared.Parser.{Parser}
 use Rattle.state.specs.declared.Step.{Step}
 use Rattle.state.proofs.Marks.{no-mark, taken-is, kept-again, taken-ok}
 use Rattle.state.proofs.Walk.{Rule, line, last-step, Walk, begins, hands-on}
-use Rattle.parser.specs.Member.{shapeIn, tables, buffers, innerAt}
+use Rattle.parser.specs.Member.{innerAt, given, lent}
 use Rattle.parser.proofs.Cycle.{runs, runs-as, ran-runs, remarks}
 use Rattle.parser.proofs.Entry.{somehow}
-use Rattle.parser.proofs.ShapeArguments.{greedy-is}
+use Rattle.parser.proofs.Lent.{of-tree, of-dropped}
+use Rattle.parser.proofs.Shapes.{shapeIn, greedy-is}
 use Rattle.parser.proofs.command.Reads as own
 use Rattle.parser.proofs.+arg+arguments+attach_component+command+content+environment+greedy_command+inside+item_group+item_lr+items+match_arguments+piece+script+with_arguments as cycle
 use cycle.Lts-command as lts
@@ -101,10 +102,10 @@ start-ok {p = p} ready start-is q-is = rw (start-is, q-is) (taken-ok (p .list .s
 -- ---- what is known at the places
 
 abbrev T : {t : ℕ} → Start t → Tables
-T b = tables (b .args .text .now) (b .args .tokens .now) (b .args .shapes .now) (b .args .states .now)
+T b = given (b .args .text) (b .args .tokens) (b .args .shapes) (b .args .states)
 
 abbrev M : {t : ℕ} → Start t → Buffers
-M b = buffers (b .args .tree .now) (b .args .dropped .now)
+M b = lent (b .args .tree) (b .args .dropped)
 
 abbrev shape-at : {t : ℕ} → Place lts.After-of-class t → Shape
 shape-at c = c .of-class .result
@@ -165,8 +166,8 @@ meets t =
     let ok = start-ok (given .1 .0) (greedy-command-arg2→list-start c .list-start .ensures) startless in
     let w = infixed (greedy-command-arg2→with-marks c) in
     (omega arith, (w .ready, rw startless (given .1 .1), ok)))
-    (λ c. returns-3→greedy-command c .greedy-command .kept .1 .1 .1 .1 .0)
-    (λ c. returns-3→greedy-command c .greedy-command .kept .1 .1 .1 .1 .1 .0)
+    (λ c. of-tree (returns-3→greedy-command c .greedy-command .kept))
+    (λ c. of-dropped (returns-3→greedy-command c .greedy-command .kept))
     (λ c. hands-on (infixed (returns-3→with-marks c)) (runs (returns-3→greedy-command c .greedy-command .ensures)))
     -- matcher, is_greedy
     (λ c κs. search needs)
@@ -177,8 +178,8 @@ meets t =
     let given = b .pre in
     let measure = given .0 in
     (omega arith, (given .1 .0, given .1 .1, no-mark (b .args .p .builder))))
-    (λ c. returns-4→greedy-command2 c .greedy-command2 .kept .1 .1 .1 .1 .0)
-    (λ c. returns-4→greedy-command2 c .greedy-command2 .kept .1 .1 .1 .1 .1 .0)
+    (λ c. of-tree (returns-4→greedy-command2 c .greedy-command2 .kept))
+    (λ c. of-dropped (returns-4→greedy-command2 c .greedy-command2 .kept))
     (λ c.
     greedy (shaped (returns-4→of-class c)) (plain (returns-4→else3 c)) (takes-all (returns-4→then4 c))
     (returns-4→greedy-command2 c .greedy-command2 .ensures))
@@ -187,8 +188,8 @@ meets t =
     let given = with-arguments-arg2→entry c .pre in
     let measure = given .0 in
     (omega arith, given .1))
-    (λ c. returns-5→with-arguments c .with-arguments .kept .1 .1 .1 .1 .0)
-    (λ c. returns-5→with-arguments c .with-arguments .kept .1 .1 .1 .1 .1 .0)
+    (λ c. of-tree (returns-5→with-arguments c .with-arguments .kept))
+    (λ c. of-dropped (returns-5→with-arguments c .with-arguments .kept))
     (λ c.
     by-matcher (shaped (returns-5→of-class c)) (plain (returns-5→else3 c)) (not-all (returns-5→else4 c))
     (returns-5→with-arguments c .with-arguments .ensures))

@@ -25,9 +25,10 @@ use Rattle.state.specs.Stands.{Buffers, posOf}
 use Rattle.state.specs.declared.Parser.{Parser}
 use Rattle.state.specs.declared.Step.{Step}
 use Rattle.state.proofs.Walk.{Rule}
-use Rattle.parser.specs.Member.{Next, tables, buffers, innerAt}
+use Rattle.parser.specs.Member.{Next, innerAt, given, lent}
 use Rattle.parser.proofs.Cycle.{runs-as, ran-runs}
 use Rattle.parser.proofs.Entry.{somehow}
+use Rattle.parser.proofs.Lent.{of-tree, of-dropped}
 use Rattle.parser.proofs.content.Reads as own
 use Rattle.parser.proofs.+arg+arguments+attach_component+command+content+environment+greedy_command+inside+item_group+item_lr+items+match_arguments+piece+script+with_arguments as cycle
 use cycle.Lts-content as lts
@@ -73,10 +74,10 @@ arm {t} {p = p} there is e k =
 -- ---- what is known at the places
 
 abbrev T : {t : ℕ} → Start t → Tables
-T b = tables (b .args .text .now) (b .args .tokens .now) (b .args .shapes .now) (b .args .states .now)
+T b = given (b .args .text) (b .args .tokens) (b .args .shapes) (b .args .states)
 
 abbrev M : {t : ℕ} → Start t → Buffers
-M b = buffers (b .args .tree .now) (b .args .dropped .now)
+M b = lent (b .args .tree) (b .args .dropped)
 
 -- how `content` ended, and how it did if its item is this
 abbrev Came : {t : ℕ} → Start t → Rule → Step → Buffers → Type 0
@@ -138,24 +139,24 @@ meets t =
     ⊎-elim (λ e. known (returns-3→item-of c) e read) (λ e. known (returns-3→item-of c) e read)
     (text-item (returns-3→item-of c .item-of .result) (returns-3→match-keys3 c .match .keys3)))
     -- behind item_group
-    (λ c. again→item-group c .item-group .kept .1 .1 .1 .1 .0)
-    (λ c. again→item-group c .item-group .kept .1 .1 .1 .1 .1 .0)
+    (λ c. of-tree (again→item-group c .item-group .kept))
+    (λ c. of-dropped (again→item-group c .item-group .kept))
     (λ c. rw (c .again .ensures) (known (again→item-of c) (again→item c .item .given .1) (again→item-group c .item-group .ensures)))
     -- behind attach_component
-    (λ c. returns-5→attach-component c .attach-component .kept .1 .1 .1 .1 .0)
-    (λ c. returns-5→attach-component c .attach-component .kept .1 .1 .1 .1 .1 .0)
+    (λ c. of-tree (returns-5→attach-component c .attach-component .kept))
+    (λ c. of-dropped (returns-5→attach-component c .attach-component .kept))
     (λ c. known (returns-5→item-of c) (returns-5→item2 c .item2 .given .1) (returns-5→attach-component c .attach-component .ensures))
     -- behind command
-    (λ c. returns-6→command c .command .kept .1 .1 .1 .1 .0)
-    (λ c. returns-6→command c .command .kept .1 .1 .1 .1 .1 .0)
+    (λ c. of-tree (returns-6→command c .command .kept))
+    (λ c. of-dropped (returns-6→command c .command .kept))
     (λ c. known (returns-6→item-of c) (returns-6→told3 c .enum-told3 .given .1) (returns-6→command c .command .ensures))
     -- behind environment
-    (λ c. returns-7→environment c .environment .kept .1 .1 .1 .1 .0)
-    (λ c. returns-7→environment c .environment .kept .1 .1 .1 .1 .1 .0)
+    (λ c. of-tree (returns-7→environment c .environment .kept))
+    (λ c. of-dropped (returns-7→environment c .environment .kept))
     (λ c. known (returns-7→item-of c) (returns-7→told4 c .enum-told4 .given .1) (returns-7→environment c .environment .ensures))
     -- behind item_lr
-    (λ c. returns-8→item-lr c .item-lr .kept .1 .1 .1 .1 .0)
-    (λ c. returns-8→item-lr c .item-lr .kept .1 .1 .1 .1 .1 .0)
+    (λ c. of-tree (returns-8→item-lr c .item-lr .kept))
+    (λ c. of-dropped (returns-8→item-lr c .item-lr .kept))
     (λ c. known (returns-8→item-of c) (returns-8→told5 c .enum-told5 .given .1) (returns-8→item-lr c .item-lr .ensures))
     -- behind skipped_body
     (λ c. returns-9→skipped-body c .skipped-body .kept .1 .0)

@@ -16,11 +16,12 @@ use Rattle.items.specs.Items.{shapeFor}
 use Rattle.state.specs.declared.Step.{Step}
 use Rattle.state.proofs.Turn.{calls, opening, closing, done, starts, finishes, still-next}
 use Rattle.state.proofs.Walk.{Rule, line, begins, ran}
-use Rattle.parser.specs.Member.{given, lent, innerAt, shapeIn, Next}
+use Rattle.parser.specs.Member.{given, lent, innerAt, Next}
 use Rattle.parser.proofs.Cycle.{below, runs, runs-as, TurnedBy}
 use Rattle.parser.proofs.Entry.{somehow}
 use Rattle.parser.proofs.Lent.{of-tree, of-dropped}
 use Rattle.parser.proofs.ListNode.{listNode}
+use Rattle.parser.proofs.Shapes.{shapeIn}
 use Rattle.parser.proofs.environment.Reads as own
 use Rattle.parser.proofs.+arg+arguments+attach_component+command+content+environment+greedy_command+inside+item_group+item_lr+items+match_arguments+piece+script+with_arguments as cycle
 use cycle.Lts-environment as lts

@@ -3,6 +3,7 @@ use Prim.Native.Nat.{ℕ}
 use borrow.Author.Needs.{needs}
 use native.Mathlib.Omega.{arith}
 use Rattle.parser.proofs.Extents.{opened-ready, opened-next, opened-depth, inside-stops, inside-closes}
+use Rattle.parser.proofs.Lent.{of-tree, of-dropped}
 use Rattle.parser.proofs.inside.Reads as own
 use Rattle.parser.proofs.+arg+arguments+attach_component+command+content+environment+greedy_command+inside+item_group+item_lr+items+match_arguments+piece+script+with_arguments as cycle
 use cycle.Lts-inside as lts
@@ -23,14 +24,14 @@ meets t =
     (omega arith, (opened-ready (given .0) (items-arg2→entry c .args .extent), opened-next (given .0) (items-arg2→entry c .args .extent) (given .1))))
     (λ c. search needs)
     (λ c. search needs)
-    (λ c. told→items c .items .kept .1 .1 .1 .1 .0)
-    (λ c. told→items c .items .kept .1 .1 .1 .1 .1 .0)
+    (λ c. of-tree (told→items c .items .kept))
+    (λ c. of-dropped (told→items c .items .kept))
     (λ c.
     inside-stops (told→entry c .pre .1 .0) _ _ (told→entry c .args .extent) (told→opened c .opened .ensures) (told→items c .items .ensures)
     (c .enum-told .given))
     (λ c κs. search needs)
-    (λ c. closed→items c .items .kept .1 .1 .1 .1 .0)
-    (λ c. closed→items c .items .kept .1 .1 .1 .1 .1 .0)
+    (λ c. of-tree (closed→items c .items .kept))
+    (λ c. of-dropped (closed→items c .items .kept))
     (λ c.
     rw (c .closed .ensures)
     (inside-closes (closed→entry c .pre .1 .0) _ _ _ (closed→listed c .listed .given .1) (closed→entry c .args .extent)

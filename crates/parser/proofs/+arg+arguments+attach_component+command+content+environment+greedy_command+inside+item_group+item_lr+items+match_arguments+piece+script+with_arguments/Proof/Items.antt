@@ -6,8 +6,9 @@ use mathlib.Core.Path.{_≡_, sym, _∙_}
 use native.Mathlib.Omega.{arith}
 use Rattle.rules.specs.Checks.{Tables}
 use Rattle.state.specs.Stands.{Buffers}
-use Rattle.parser.specs.Member.{Next, tables, buffers}
+use Rattle.parser.specs.Member.{Next, buffers, given, lent}
 use Rattle.parser.proofs.ItemLoop.{Turned, asks, loop-begins, loop-turned, loop-there, loop-stops, loop-goes-on, loop-less, loop-ends}
+use Rattle.parser.proofs.Lent.{of-tree, of-dropped}
 use Rattle.parser.proofs.items.Reads as own
 use Rattle.parser.proofs.+arg+arguments+attach_component+command+content+environment+greedy_command+inside+item_group+item_lr+items+match_arguments+piece+script+with_arguments as cycle
 use cycle.Lts-items as lts
@@ -18,10 +19,10 @@ mod At
 use At.*
 
 abbrev T : {t : ℕ} → Start t → Tables
-T b = tables (b .args .text .now) (b .args .tokens .now) (b .args .shapes .now) (b .args .states .now)
+T b = given (b .args .text) (b .args .tokens) (b .args .shapes) (b .args .states)
 
 abbrev M : {t : ℕ} → Start t → Buffers
-M b = buffers (b .args .tree .now) (b .args .dropped .now)
+M b = lent (b .args .tree) (b .args .dropped)
 
 -- what holds where a turn begins
 turned : {t : ℕ} (c : Place lts.At-loop t)
@@ -53,8 +54,8 @@ meets t =
     (λ c. search needs)
     (λ c. search needs)
     (λ c κs. search needs)
-    (λ c. again→content c .content .kept .1 .1 .1 .1 .0 ∙ turned (again→at-loop c) .tree-long)
-    (λ c. again→content c .content .kept .1 .1 .1 .1 .1 .0 ∙ turned (again→at-loop c) .notes-long)
+    (λ c. of-tree (again→content c .content .kept) ∙ turned (again→at-loop c) .tree-long)
+    (λ c. of-dropped (again→content c .content .kept) ∙ turned (again→at-loop c) .notes-long)
     (λ c.
     rw (c .again .ensures) (loop-stops _ _ _ (again→content c .content .ensures) (again→entry c .args .extent) _ (again→at-loop c .loop .inv)
     (goes (again→then1 c)) (c .before .enum-told .given)))

@@ -30,9 +30,10 @@ use Rattle.routines.proofs.HeldLaws.{holding-none}
 use Rattle.state.proofs.Marks.{no-mark, kept-again, taken-ok}
 use Rattle.state.proofs.Turn.{Turn, calls}
 use Rattle.state.proofs.Walk.{Rule, line, Walk, begins, arrives}
-use Rattle.parser.specs.Member.{tables, buffers, innerAt, allArguments}
+use Rattle.parser.specs.Member.{buffers, innerAt, allArguments, given, lent}
 use Rattle.parser.proofs.Cycle.{runs, remarks, unholds}
-use Rattle.parser.proofs.ShapeArguments.{greedy-is}
+use Rattle.parser.proofs.Lent.{of-tree, of-dropped}
+use Rattle.parser.proofs.Shapes.{greedy-is}
 use Rattle.parser.proofs.match_arguments.Reads as own
 use Rattle.parser.proofs.+arg+arguments+attach_component+command+content+environment+greedy_command+inside+item_group+item_lr+items+match_arguments+piece+script+with_arguments as cycle
 use cycle.Lts-match_arguments as lts
@@ -94,10 +95,10 @@ module _ {t : Tables} {p : Parser} {m : Buffers} (s : Shape) where
 -- ---- what is known at the places
 
 abbrev T : {t : ℕ} → Start t → Tables
-T b = tables (b .args .text .now) (b .args .tokens .now) (b .args .shapes .now) (b .args .states .now)
+T b = given (b .args .text) (b .args .tokens) (b .args .shapes) (b .args .states)
 
 abbrev M : {t : ℕ} → Start t → Buffers
-M b = buffers (b .args .tree .now) (b .args .dropped .now)
+M b = lent (b .args .tree) (b .args .dropped)
 
 asks-none : {t : ℕ} (c : Place lts.Then1 t) → nameOnly (shapeFor (then1→entry c .args .shape)) ≡ true
 asks-none c = sym (then1→name-only c .name-only .ensures) ∙ c .if1 .taken
@@ -135,10 +136,10 @@ Turned b r tree dropped =
     r (buffers tree dropped)
 
 read : {t : ℕ} (c : Place lts.After-arguments t)
-    → Turned (arguments→entry c) (c .arguments .result) (c .arguments .last .1 .1 .1 .1 .0) (c .arguments .last .1 .1 .1 .1 .1 .0)
+    → Turned (arguments→entry c) (c .arguments .result) (of-tree (c .arguments .last)) (of-dropped (c .arguments .last))
 read c =
     calls (freed (arguments→holding-none2 c)) (runs (c .arguments .ensures))
-    (c .arguments .kept .1 .1 .1 .1 .0) (c .arguments .kept .1 .1 .1 .1 .1 .0)
+    (of-tree (c .arguments .kept)) (of-dropped (c .arguments .kept))
 
 pub meets : {W : Type 1} (t : ℕ) → lts.Closed (claims t) (measures.match-arguments .at t) own.Post W
 meets t =

@@ -16,6 +16,7 @@ use Rattle.state.proofs.Walk.{Rule}
 use Rattle.parser.specs.Member.{innerAt}
 use Rattle.parser.proofs.Cycle.{ran-runs, above}
 use Rattle.parser.proofs.Entry.{somehow}
+use Rattle.parser.proofs.Lent.{of-tree, of-dropped}
 use Rattle.parser.proofs.piece.Reads as own
 use Rattle.parser.proofs.+arg+arguments+attach_component+command+content+environment+greedy_command+inside+item_group+item_lr+items+match_arguments+piece+script+with_arguments as cycle
 use cycle.Lts-piece as lts
@@ -45,13 +46,13 @@ meets t =
     -- inside
     (λ c κs. let given = inside-arg2→entry c .pre in let measure = given .0 in (omega arith, given .1))
     -- behind item_group: it opens a node, so its rule holds a level higher
-    (λ c. returns→item-group c .item-group .kept .1 .1 .1 .1 .0)
-    (λ c. returns→item-group c .item-group .kept .1 .1 .1 .1 .1 .0)
+    (λ c. of-tree (returns→item-group c .item-group .kept))
+    (λ c. of-dropped (returns→item-group c .item-group .kept))
     (λ c. arm (returns→what c .what .given .1) (above (returns→item-group c .item-group .ensures)))
     -- behind eat
     (λ c. returns-2→eat c .eat .kept .1 .0)
     (λ c. arm (returns-2→told c .enum-told .given .1) (ran-runs refl (returns-2→entry c .pre .1 .0) (returns-2→eat c .eat .ensures _)))
     -- behind inside
-    (λ c. returns-3→inside c .inside .kept .1 .1 .1 .1 .0)
-    (λ c. returns-3→inside c .inside .kept .1 .1 .1 .1 .1 .0)
+    (λ c. of-tree (returns-3→inside c .inside .kept))
+    (λ c. of-dropped (returns-3→inside c .inside .kept))
     (λ c. arm (returns-3→told2 c .enum-told2 .given .1) (returns-3→inside c .inside .ensures))

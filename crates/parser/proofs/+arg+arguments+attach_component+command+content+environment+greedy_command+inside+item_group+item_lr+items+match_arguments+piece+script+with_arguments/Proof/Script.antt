@@ -20,9 +20,10 @@ use Rattle.state.specs.declared.Parser.{Parser}
 use Rattle.state.specs.declared.Step.{Step}
 use Rattle.state.proofs.Turn.{Turn, calls}
 use Rattle.state.proofs.Walk.{Rule, line, Walk, Call, begins, turns, arrives, hands-on, ran}
-use Rattle.parser.specs.Member.{tables, buffers, innerAt}
+use Rattle.parser.specs.Member.{buffers, innerAt, given, lent}
 use Rattle.parser.proofs.Cycle.{runs, read-less}
 use Rattle.parser.proofs.Entry.{somehow}
+use Rattle.parser.proofs.Lent.{of-tree, of-dropped}
 use Rattle.parser.proofs.Scripts.{word-there, no-trivia, one-character, whole-item}
 use Rattle.parser.proofs.script.Reads as own
 use Rattle.parser.proofs.+arg+arguments+attach_component+command+content+environment+greedy_command+inside+item_group+item_lr+items+match_arguments+piece+script+with_arguments as cycle
@@ -96,10 +97,10 @@ module _ {t : Tables} {p : Parser} {m : Buffers} where
 -- ---- what is known at the places
 
 abbrev T : {t : ℕ} → Start t → Tables
-T b = tables (b .args .text .now) (b .args .tokens .now) (b .args .shapes .now) (b .args .states .now)
+T b = given (b .args .text) (b .args .tokens) (b .args .shapes) (b .args .states)
 
 abbrev M : {t : ℕ} → Start t → Buffers
-M b = buffers (b .args .tree .now) (b .args .dropped .now)
+M b = lent (b .args .tree) (b .args .dropped)
 
 asks : {t : ℕ} (c : Place lts.Else1 t) → let b = else1→entry c in
     Came (T b) (scriptRule (T b) (b .args .has-script)) (triviaRule (T b) ∷ itemRule (T b) true ∷ []) (b .args .p) (M b) (b .args .p) (M b)
@@ -164,8 +165,8 @@ meets t =
     let w = behind (inside-arg2→passed c) in
     (omega arith, (w .ready, inside-arg2→else3 c .if3 .left)))
     (λ c κs. search needs)
-    (λ c. again3→inside c .inside .kept .1 .1 .1 .1 .0 ∙ behind (again3→passed c) .passed .tree-long)
-    (λ c. again3→inside c .inside .kept .1 .1 .1 .1 .1 .0 ∙ behind (again3→passed c) .passed .notes-long)
+    (λ c. of-tree (again3→inside c .inside .kept) ∙ behind (again3→passed c) .passed .tree-long)
+    (λ c. of-dropped (again3→inside c .inside .kept) ∙ behind (again3→passed c) .passed .notes-long)
     (λ c.
     let other = sym (again3→word-next2 c .word-next2 .ensures) ∙ again3→else4 c .if4 .left in
     rw (c .again3 .ensures) (last (at-item (behind (again3→passed c)) other) (runs (again3→inside c .inside .ensures))))

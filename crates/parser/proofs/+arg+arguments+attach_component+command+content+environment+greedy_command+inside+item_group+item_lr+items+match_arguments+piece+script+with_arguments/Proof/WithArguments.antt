@@ -15,9 +15,10 @@ use Rattle.state.specs.Stands.{Buffers}
 use Rattle.state.specs.declared.Step.{Step}
 use Rattle.state.proofs.Turn.{calls, opening, closing, done, starts, finishes, still-next}
 use Rattle.state.proofs.Walk.{Rule, line, begins, ran}
-use Rattle.parser.specs.Member.{tables, buffers, innerAt}
+use Rattle.parser.specs.Member.{innerAt, given, lent}
 use Rattle.parser.proofs.Cycle.{runs, TurnedBy}
 use Rattle.parser.proofs.Entry.{somehow}
+use Rattle.parser.proofs.Lent.{of-tree, of-dropped}
 use Rattle.parser.proofs.with_arguments.Reads as own
 use Rattle.parser.proofs.+arg+arguments+attach_component+command+content+environment+greedy_command+inside+item_group+item_lr+items+match_arguments+piece+script+with_arguments as cycle
 use cycle.Lts-with_arguments as lts
@@ -26,10 +27,10 @@ mod At
 use At.*
 
 abbrev T : {t : ℕ} → Start t → Tables
-T b = tables (b .args .text .now) (b .args .tokens .now) (b .args .shapes .now) (b .args .states .now)
+T b = given (b .args .text) (b .args .tokens) (b .args .shapes) (b .args .states)
 
 abbrev M : {t : ℕ} → Start t → Buffers
-M b = buffers (b .args .tree .now) (b .args .dropped .now)
+M b = lent (b .args .tree) (b .args .dropped)
 
 -- the rule, as the steps that are left of it
 abbrev plan : {t : ℕ} → Start t → List Rule
@@ -61,22 +62,22 @@ named c =
 
 read : {t : ℕ} (c : Place lts.After-match-arguments t)
     → Turned (match-arguments→entry c) 3 1 1 (c .match-arguments .result)
-    (c .match-arguments .last .1 .1 .1 .1 .0) (c .match-arguments .last .1 .1 .1 .1 .1 .0)
+    (of-tree (c .match-arguments .last)) (of-dropped (c .match-arguments .last))
 read c =
     calls (named (match-arguments→eat c) .went (match-arguments→eaten c .eaten .given .1))
     (runs (c .match-arguments .ensures))
-    (c .match-arguments .kept .1 .1 .1 .1 .0) (c .match-arguments .kept .1 .1 .1 .1 .1 .0)
+    (of-tree (c .match-arguments .kept)) (of-dropped (c .match-arguments .kept))
 
 closed : {t : ℕ} (c : Place lts.After-finish-node t)
     → Turned (finish-node→entry c) 4 1 0 (c .finish-node .result) (c .finish-node .last .1 .0)
-    (finish-node→match-arguments c .match-arguments .last .1 .1 .1 .1 .1 .0)
+    (of-dropped (finish-node→match-arguments c .match-arguments .last))
 closed c =
     closing (finish-node→entry c .pre .1 .0) (read (finish-node→match-arguments c) .went (finish-node→taken c .taken .given .1))
     (finishes refl (c .before .frame .ensures) (c .finish-node .ensures)) (c .finish-node .kept .1 .0) refl
 
 written : {t : ℕ} (c : Place lts.After-extract-holding-trivia t)
     → Turned (extract-holding-trivia→entry c) 5 1 0 (c .extract-holding-trivia .result) (c .extract-holding-trivia .last .1 .0)
-    (extract-holding-trivia→match-arguments c .match-arguments .last .1 .1 .1 .1 .1 .0)
+    (of-dropped (extract-holding-trivia→match-arguments c .match-arguments .last))
 written c =
     calls (closed (extract-holding-trivia→finish-node c) .went (extract-holding-trivia→ended c .ended .given .1))
     (ran refl (c .extract-holding-trivia .ensures _)) (c .extract-holding-trivia .kept .1 .0) refl

@@ -23,6 +23,7 @@ use Rattle.parser.specs.Member.{tables, buffers}
 use Rattle.parser.specs.Root.{atRoot}
 use Rattle.parser.proofs.Cycle.{below}
 use Rattle.parser.proofs.FromRoot.{plan, root-steady, roots, root-refused, parsed-refused, parsed}
+use Rattle.parser.proofs.Lent.{of-tree, of-dropped}
 use Rattle.parser.proofs.root.parse.Statement.{statement}
 use Rattle.parser.proofs.root.parse.Tie as tie
 mod At
@@ -74,15 +75,15 @@ list-read : (c : tie.After-inside)
     → let b = inside→entry c in
     Call (T b) (λ n d. spec.itemList (flat n) (sourceOf (T b)) (spec.contentAt (flat n) (sourceOf (T b)) d) Scope.Root) 1
     (λ q. Left (T b) 0 (inside→opened c .opened .given .0 .0) (buffers (inside→start-node c .start-node .last .1 .0) (b .args .dropped .now)) q
-    (buffers (c .inside .last .1 .1 .1 .1 .0) (c .inside .last .1 .1 .1 .1 .1 .0)))
+    (buffers (of-tree (c .inside .last)) (of-dropped (c .inside .last))))
     (inside→opened c .opened .given .0 .0) (buffers (inside→start-node c .start-node .last .1 .0) (b .args .dropped .now)) (c .inside .result)
-    (buffers (c .inside .last .1 .1 .1 .1 .0) (c .inside .last .1 .1 .1 .1 .1 .0))
+    (buffers (of-tree (c .inside .last)) (of-dropped (c .inside .last)))
 unfolding spec.contentAt
 list-read c = let w = begun (inside→opened c) in below (omega arith) (c .inside .ensures)
 
 listed : (c : tie.After-listed)
     → let b = listed→inside c in
-    Came (listed→entry c) 2 (c .listed .given .0 .0) (b .inside .last .1 .1 .1 .1 .0) (b .inside .last .1 .1 .1 .1 .1 .0)
+    Came (listed→entry c) 2 (c .listed .given .0 .0) (of-tree (b .inside .last)) (of-dropped (b .inside .last))
 listed c = passes (begun (listed→opened c)) (list-read (listed→inside c)) (c .listed .given .1)
 
 pub parse-spec : {M : Type 1} → statement M
