@@ -76,14 +76,13 @@ impl GreenNodeBuilder {
     pub fn frame(self) -> Frame
         ensures { λ r. ⌜ r ≡ record { first = self .first; node = self .node } ⌝ }
     {
-        let first = self.first;
         Frame {
-            first: first,
+            first: self.first,
             node: self.node,
         }
     }
 
-    // A leaf of the innermost open node.
+    // A leaf of the innermost open node. Here and below the new numbers are written field by field: a copy that is changed would go through memory.
     pub fn token(self, tree: &mut [u32], place: usize, kind: u32, start: u32, size: u32) -> Built
         requires { ⌜ Fits self (now tree) ⌝ }
         ensures { λ r. ⌜ Goes (λ n. flat.leaf n place kind start size) self tree r ⌝ }

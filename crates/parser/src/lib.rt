@@ -69,6 +69,7 @@ use syntax::Token;
 //   25.2 / 27.9   `content` hands a copy of its state to `item_group`;
 //   22.9 / 25.2   `script` asks for a Word before it passes trivia: most scripts are one character, and then no routine is called that the state
 //                 would have to lie in memory for.
+// Two more stand in crates/builder and crates/state: docs/DECISIONS.md, 'Only for speed'.
 
 // Items as far as an extent goes: up to the end, or a token that stops them, or one. That it is one loop is only for speed: see above.
 fn items(
@@ -269,8 +270,8 @@ fn arguments(
     Step::Went(now)
 }
 
-// The arguments that a shape asks for. The Rust asserts here that they aren't greedy; a \begin whose shape is gets refusal 5, and no such command
-// comes here. Last is cleared first and saved second, so it is empty afterwards.
+// The arguments that a shape asks for. The Rust asserts here that they aren't greedy. A \begin with a greedy shape gets refusal 5; a greedy command does
+// not come here. Last is cleared first and saved second, so it is empty afterwards.
 fn match_arguments(
     text: &[u8],
     tokens: &[u32],
@@ -647,8 +648,8 @@ fn content(
         Item::Word | Item::Comma => clauses::text(tokens, tree, p),
         Item::Group(scope) => {
             // Only for speed: see above.
-            let at = p;
-            item_group(text, tokens, shapes, states, tree, dropped, at, scope).again()
+            let copy = p;
+            item_group(text, tokens, shapes, states, tree, dropped, copy, scope).again()
         }
         Item::Attachment(has_script) => attach_component(
             text,

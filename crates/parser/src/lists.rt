@@ -15,7 +15,7 @@ use state::Mark;
 use state::Parser;
 use syntax::ParseScope;
 
-// How far is read: a new list of a scope, all that a greedy command takes, or one item. All three go through one loop, only for speed: see `items`.
+// How far is read: a new list of a scope, all that a greedy command takes, or one item. All three go through one loop, only for speed: see 'Only for speed' in lib.rt.
 pub enum Extent {
     List(ParseScope),
     Greedy,

@@ -34,8 +34,8 @@ fn put_back(
         if tree[from] != Tag::LEAF {
             continue;
         }
-        let half = dropped_after(out, next, text, tokens, dropped, drops, leaves);
-        next = range(out, half, text, tree, from + 2);
+        let behind_dropped = dropped_after(out, next, text, tokens, dropped, drops, leaves);
+        next = range(out, behind_dropped, text, tree, from + 2);
         leaves = leaves + 1;
     }
     dropped_after(out, next, text, tokens, dropped, drops, leaves)

@@ -38,12 +38,12 @@ fn is_accepted(
     if drops != number(case, at + 8) {
         return false;
     }
-    let trees = rows_from(case, at + 12, tree, rows, true);
-    let Compared::Same(next) = trees else {
+    let tree_compared = rows_from(case, at + 12, tree, rows, true);
+    let Compared::Same(next) = tree_compared else {
         return false;
     };
-    let others = rows_from(case, next, dropped, drops, false);
-    let Compared::Same(end) = others else {
+    let dropped_compared = rows_from(case, next, dropped, drops, false);
+    let Compared::Same(end) = dropped_compared else {
         return false;
     };
     if end != case.len() {

@@ -32,12 +32,12 @@ fn tree_row(case: &[u8], at: usize, tree: &[u32], row: usize) -> Compared
     requires { ⌜ (at < 2 ^ 38) × (row < 2 ^ 32) ⌝ }
     ensures { λ r. ⌜ Compares (at + treeForm .bytes (now (case .entry)) at) (RowIs treeForm (now (case .entry)) at (now (tree .entry)) row) r ⌝ }
 {
-    let mark = byte(case, at);
+    let tag_and_kind = byte(case, at);
     let from = row * Limits::TREE_WIDTH;
-    if mark / KINDS == wide(Tag::LEAF) {
+    if tag_and_kind / KINDS == wide(Tag::LEAF) {
         let leaf = [
-            mark / KINDS,
-            mark % KINDS,
+            tag_and_kind / KINDS,
+            tag_and_kind % KINDS,
             short(case, at + 1),
             short(case, at + 3),
         ];
@@ -46,7 +46,7 @@ fn tree_row(case: &[u8], at: usize, tree: &[u32], row: usize) -> Compared
         }
         return Compared::Differs;
     }
-    let other = [mark / KINDS, mark % KINDS, 0, 0];
+    let other = [tag_and_kind / KINDS, tag_and_kind % KINDS, 0, 0];
     if stand_at(tree, from, &other) {
         return Compared::Same(at + 1);
     }

@@ -106,15 +106,16 @@ module _ (B : Builder) (source : Source) where
         ∷ [])
         p
 
-    -- the arguments that a shape asks for. "environment whose class 2 shape is greedy, when its arguments are to be read" is refused 5; a greedy
-    -- command is read by `greedyCommand` and doesn't come here
+    -- the arguments that a shape asks for: none, and then nothing is held, or those that its matcher takes. "environment whose class 2 shape is greedy,
+    -- when its arguments are to be read" is refused 5. Of commands, only those with a matcher that isn't greedy come here (`commandOf`)
     unfoldable pub argumentsOf : Shape → Rule B
     argumentsOf s p =
         cond (nameOnly s) (went (holdingNone B p))
         (cond (isGreedy (startMatch (s .form) (s .value))) (refused greedyEnvironment (place B p))
         (matchArguments (startMatch (s .form) (s .value)) p))
 
-    -- a name and the arguments that a shape asks for, in a node of a kind; behind it the trivia that is left:  \f12   Cmd[\f Arg[1] Arg[2]]
+    -- a name and the arguments that a shape asks for, in a node of a kind:  \f12   Cmd[\f Arg[1] Arg[2]]
+    -- of trivia that was held "what is left follows the command's node"
     unfoldable pub withArguments : ℕ → Shape → Rule B
     withArguments kind s p =
         steps

@@ -225,10 +225,10 @@ impl Parser {
                 let lexer = self.lexer;
                 let list = self.list;
                 Step::Went(Parser {
-                    lexer: lexer,
+                    lexer,
                     held: self.held,
-                    list: list,
-                    builder: builder,
+                    list,
+                    builder,
                     dropped: self.dropped,
                 })
             }

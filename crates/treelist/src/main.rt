@@ -1,4 +1,4 @@
-// Reads one sheet from standard input and writes what is printed of it to standard output. All that matters is in the libraries below.
+// Reads one sheet from standard input and writes what is printed of it to standard output. All that matters is in printed.rt and the crates below.
 mod printed;
 mod sizes;
 

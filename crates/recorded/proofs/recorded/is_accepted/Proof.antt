@@ -84,7 +84,7 @@ near case at rows compares same = rw (compares .same _ same .0) (rows-near true 
 
 rows-from-requires-2 : tie.Need-rows-from-requires-2
 rows-from-requires-2 c κs =
-    let behind = near _ _ _ (c .before .before .before .rows-from .ensures) (c .before .trees .given .1) in
+    let behind = near _ _ _ (c .before .before .before .rows-from .ensures) (c .before .tree-compared .given .1) in
     (omega arith, omega arith)
 
 pub is-accepted-spec : {M : Type 1} → statement M

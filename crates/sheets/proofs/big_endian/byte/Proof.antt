@@ -1,4 +1,4 @@
--- `byte` meets its contract: it reads inside the sheet, and past its end the list's default is 0. Assumes nothing.
+-- `byte` meets its contract: it reads inside the bytes, and past their end the list's default is 0. Assumes nothing.
 use mathlib.Core.Path.{refl, sym}
 use native.Mathlib.Omega.{arith}
 use borrow.Author.Needs.{needs}
@@ -13,7 +13,7 @@ returns : tie.Need-returns
 returns c = (refl, omega (arith, c .shared-slice-known .given (c .before .before .args .at)))
 
 returns-2 : tie.Need-returns-2
-returns-2 c = (sym (List·getD-eq-default (c .before .args .sheet .now) 0 (c .if1 .left)), search needs)
+returns-2 c = (sym (List·getD-eq-default (c .before .args .bytes .now) 0 (c .if1 .left)), search needs)
 
 pub byte-spec : {M : Type 1} → statement M
 byte-spec = tie.close (tie.spec (λ c. search needs) cast-result returns returns-2)
