@@ -9,7 +9,7 @@ use Rattle.arg_match.specs.declared.Tried.{Tried}
 use Rattle.arg_match.specs.declared.Tried.the-variants as tried
 use Rattle.arg_match.specs.declared.Matched.{Matched}
 use Rattle.arg_match.specs.declared.Matched.the-variants as matched
-use Rattle.syntax.proofs.Only.{Only, equal, fixed, stands}
+use Rattle.syntax.proofs.Only.{Only, equal, stands}
 use Rattle.arg_match.proofs.ArgMatcher.is_greedy.Reads as is-greedy
 use Rattle.arg_match.proofs.ArgMatcher.match_as_term.Reads as match-as-term
 use Rattle.arg_match.proofs.ArgMatcher.start_match.Reads as start-match
@@ -27,9 +27,6 @@ from-matcher (AtMostTerm max counter) = refl
 from-matcher Greedy = refl
 from-matcher (Glob state) = refl
 
-pub one-matcher : (a b : ArgMatcher) → matcherOf a ≡ matcherOf b → a ≡ b
-one-matcher = fixed matcherOf matcher from-matcher
-
 abbrev tried-of : rules.Tried → Tried
 tried-of rules.refused = tried.Refused
 tried-of (rules.accepted m) = tried.Accepted (matcher m)
@@ -37,9 +34,6 @@ tried-of (rules.accepted m) = tried.Accepted (matcher m)
 from-tried : (t : Tried) → tried-of (triedOf t) ≡ t
 from-tried tried.Refused = refl
 from-tried (tried.Accepted m) = ap tried.Accepted (from-matcher m)
-
-pub one-tried : (a b : Tried) → triedOf a ≡ triedOf b → a ≡ b
-one-tried = fixed triedOf tried-of from-tried
 
 abbrev matched-of : rules.Matched → Matched
 matched-of rules.none = matched.Refused
@@ -50,9 +44,6 @@ from-matched : (t : Matched) → matched-of (matchedOf t) ≡ t
 from-matched matched.Refused = refl
 from-matched (matched.Whole m) = ap matched.Whole (from-matcher m)
 from-matched (matched.Bare m) = ap matched.Bare (from-matcher m)
-
-pub one-matched : (a b : Matched) → matchedOf a ≡ matchedOf b → a ≡ b
-one-matched = fixed matchedOf matched-of from-matched
 
 -- ---- the public functions
 pub only-start-match : Only start-match.Post

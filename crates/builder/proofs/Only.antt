@@ -7,8 +7,8 @@ use native.Mathlib.Omega.{arith}
 use lib.ListN.{take, drop, take-append-drop}
 use Rattle.rules.specs.Flat.{Rows}
 use Rattle.rules.specs.Limits.{treeWidth}
-use Rattle.rules.specs.Outcome.{Out, went, refused}
-use Rattle.syntax.proofs.Only.{Only, equal, fixed, stands}
+use Rattle.rules.specs.Outcome.{Out}
+use Rattle.syntax.proofs.Only.{Only, equal, stands}
 use Rattle.builder.specs.Contract.{Did, Leaves}
 use Rattle.builder.specs.Stands.{rowsOf, outOf}
 use Rattle.builder.specs.declared.Built.{Built}

@@ -19,6 +19,7 @@ use Rattle.state.specs.declared.Parser.{Parser}
 use Rattle.state.specs.declared.Step.{Step}
 use Rattle.state.specs.declared.Step.the-variants.{Went}
 use Rattle.routines.proofs.HeldLaws.{ignores}
+use Rattle.state.proofs.Left.{steady-changed}
 use Rattle.state.proofs.Turn.{begins-last}
 use Rattle.state.proofs.Walk.{line, begins, passes, opens, passing, Stopped, stop, stopped, then-went}
 
@@ -64,22 +65,11 @@ module _ (frame : Frame) {p : Parser} {m : Buffers} {r : Step} {v : Buffers} {fi
         let ended : Ended t first node p m q v = rw e at (finished .told t ready .gone) in
         let passed = ended .passed in
         let y = ended .steady in
-        let light = y .light in
         record {
           is = then-went _ _ _ _ (finished .told t ready .is ∙ ap (λ (x : Step). outOf x v) e) refl;
           gone = record {
             passed = passing (passed .tree) (passed .notes) (passed .tree-long) (passed .notes-long) (omega arith);
-            steady = record {
-              good = y .good;
-              fine = y .fine;
-              token = y .token;
-              fits = y .fits;
-              start = y .start;
-              last = y .last;
-              dropped = y .dropped;
-              notes = y .notes;
-              light = omega arith;
-            };
+            steady = steady-changed (q .lexer .token) (q .list) y (omega arith) (y .start) (y .last);
             depth = ended .depth;
             first-is = ended .first-is;
             node-is = ended .node-is;

@@ -18,9 +18,10 @@ use items::is_command_name;
 use lexer::Peeked;
 use routines::eat;
 use routines::eat_as;
+use routines::next_is;
 use routines::one_in;
-use routines::single_char;
 use routines::trivia;
+use routines::word_character;
 use state::Mark;
 use state::Parser;
 use state::Step;
@@ -91,7 +92,7 @@ fn delimiter(text: &[u8], tokens: &[u32], tree: &mut [u32], p: Parser) -> Step
         return Step::Went(p);
     }
     if kind == Token::WORD {
-        return single_char(tokens, tree, p, p.lexer.peek_text(text, tokens));
+        return word_character(text, tokens, tree, p);
     }
     eat(tokens, tree, p)
 }
@@ -124,11 +125,7 @@ pub fn end_clause(tokens: &[u32], tree: &mut [u32], p: Parser) -> Step
     requires { ⌜ Somehow (Tokens tokens) p (now tree) ⌝ }
     ensures { λ r. ⌜ Grows (Tokens (tokens .entry)) tree p r 0 (λ s n. spec.endClause (flat n) s) ⌝ }
 {
-    let peeked = p.lexer.peek(tokens);
-    let Peeked::Kind(kind) = peeked else {
-        return Step::Went(p);
-    };
-    if kind == Token::END_ENVIRONMENT {
+    if next_is(tokens, p, Token::END_ENVIRONMENT) {
         return one_in(tokens, tree, p, SyntaxKind::ITEM_END);
     }
     Step::Went(p)
@@ -139,11 +136,7 @@ pub fn right_clause(text: &[u8], tokens: &[u32], tree: &mut [u32], p: Parser) ->
     requires { ⌜ Somehow (Texts text tokens) p (now tree) ⌝ }
     ensures { λ r. ⌜ Grows (Texts (text .entry) (tokens .entry)) tree p r 0 (λ s n. spec.rightClause (flat n) s) ⌝ }
 {
-    let peeked = p.lexer.peek(tokens);
-    let Peeked::Kind(kind) = peeked else {
-        return Step::Went(p);
-    };
-    if kind == Token::RIGHT {
+    if next_is(tokens, p, Token::RIGHT) {
         return clause_lr(text, tokens, tree, p);
     }
     Step::Went(p)

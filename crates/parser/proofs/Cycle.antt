@@ -15,8 +15,9 @@ use Rattle.state.specs.declared.KeptMark.{KeptMark}
 use Rattle.state.specs.declared.Parser.{Parser}
 use Rattle.state.specs.declared.Step.{Step}
 use Rattle.state.specs.declared.Step.the-variants.{Went, Refused}
+use Rattle.state.proofs.Left.{changed, steady-changed}
 use Rattle.state.proofs.Turn.{Turn}
-use Rattle.state.proofs.Walk.{Rule, line, Walk, Call, stays-home, weaker}
+use Rattle.state.proofs.Walk.{Rule, line, Walk, Call, passing, stays-home, weaker}
 
 -- ---- calls
 
@@ -52,47 +53,19 @@ module _ {t : Tables} {rule f : Rule} {rest : List Rule} {gain lift : ℕ} {scop
   unfolding line
   stepped z is d h = w .is d h ∙ rw (is (length (m .tree)) d)
 
-  abbrev changed : ℕ → ListState → Parser
-  changed held l = record { lexer = u .lexer; held = held; list = l; builder = u .builder; dropped = u .dropped }
-
   -- the code took another list or holds less, and no more is to be written for it
-  changes : {to : ℕ} (held : ℕ) (l : ListState) → l .scope ≡ to → weight t (changed held l) ≤ weight t u
-      → MarkOk (l .start) (u .builder) → MarkOk (l .last) (u .builder) → Goes (changed held l) → Walk t rule rest gain lift to s m (changed held l) v
+  changes : {to : ℕ} (held : ℕ) (l : ListState) → l .scope ≡ to → weight t (changed u held l) ≤ weight t u
+      → MarkOk (l .start) (u .builder) → MarkOk (l .last) (u .builder) → Goes (changed u held l)
+      → Walk t rule rest gain lift to s m (changed u held l) v
   changes held l same weighs first last is =
       let p = w .passed in
-      let y = w .ready .steady in
-      let lighter = p .light in
-      let light = y .light in
       record {
-        is = stepped (changed held l) is;
-        passed = record {
-          tree = p .tree;
-          notes = p .notes;
-          tree-long = p .tree-long;
-          notes-long = p .notes-long;
-          rows = p .rows;
-          dropped = p .dropped;
-          token = p .token;
-          read = p .read;
-          light = omega arith;
-        };
-        ready = record {
-          steady = record {
-            good = y .good;
-            fine = y .fine;
-            token = y .token;
-            fits = y .fits;
-            start = first;
-            last = last;
-            dropped = y .dropped;
-            notes = y .notes;
-            light = omega arith;
-          };
-          within = w .ready .within;
-        };
+        is = stepped (changed u held l) is;
+        passed = passing (p .tree) (p .notes) (p .tree-long) (p .notes-long) (omega arith);
+        ready = record { steady = steady-changed held l (w .ready .steady) weighs first last; within = w .ready .within };
         depth = w .depth;
         few = w .few;
-        home = stays-home lift s u (changed held l) refl refl (w .home);
+        home = stays-home lift s u (changed u held l) refl refl (w .home);
         scope-is = same;
       }
 

@@ -1,23 +1,24 @@
 -- A routine that goes by the next token's kind: from what `peek` told, it is the routine of that arm, or nothing is done. Assumes nothing.
-use mathlib.Core.Path.{_≡_, refl, sym, ap, _∙_}
-use mathlib.Core.Bool.{cond}
+use mathlib.Core.Path.{_≡_, sym, ap, _∙_}
+use mathlib.Core.Bool.{Bool, true, false}
 use mathlib.Core.List.{List}
 use mathlib.Core.Option.{Option}
-use Prim.Native.Nat.{ℕ}
+use Prim.Native.Nat.{ℕ, _<_}
 use lib.Dec.{eqb}
-use borrow.Author.Tests.{eq-eqb, ne-eqb}
 use Rattle.rules.specs.Checks.{Tables, sourceOf}
 use Rattle.rules.specs.Cursor.{Cursor, peek}
+use Rattle.rules.specs.Flat.{flat}
 use Rattle.rules.specs.Outcome.{went}
 use Rattle.rules.specs.Position.{Source, asked}
-use Rattle.lexer.specs.Reading.{cursorOf, peekedOf}
-use Rattle.lexer.specs.declared.cursor.Peeked.{Peeked}
-use Rattle.lexer.specs.declared.cursor.Peeked.the-variants.{Kind, End}
+use Rattle.rules.specs.Routines.{ifNext}
+use Rattle.rules.specs.Tables.{tokenCount}
+use Rattle.lexer.specs.Reading.{cursorOf}
 use Rattle.state.specs.Contract.{Ran, RuleOf}
 use Rattle.state.specs.Stands.{Buffers, Here, posOf}
 use Rattle.state.specs.declared.Parser.{Parser}
 use Rattle.state.specs.declared.Step.{Step}
 use Rattle.state.specs.declared.Step.the-variants.{Went}
+use Rattle.routines.proofs.Eating.{asked-there}
 use Rattle.state.proofs.Walk.{nothing-done, ran-as, ran-less}
 
 -- such a rule, over what it is for each kind
@@ -44,20 +45,25 @@ module _ {sees : Tables → Type 0} {tokens : List ℕ} (rows : (t : Tables) →
   pub arm-stays : ((s : Source) (n : ℕ) (q : Here) → of next s n q ≡ went q) → Ran sees 0 (by-next of) p m (Went p) m
   arm-stays is = nothing-done (λ t seen n. arm-is of t tokens n (posOf p m) (rows t seen) told ∙ is (sourceOf t) n (posOf p m))
 
--- ---- what is read where the next token is of a kind
+-- ---- what is read where the next token is of a kind, from what the code was told of it
 
-module _ (kind : ℕ) (read : RuleOf) where
-  abbrev pub if-next : Option ℕ → RuleOf
-  if-next next s n q = cond (asked (eqb kind) next) (read s n q) (went q)
+-- where it is of the kind, it is there
+pub kind-there : (tokens : List ℕ) (kind : ℕ) (c : Cursor) {answer : Bool} → answer ≡ asked (eqb kind) (peek tokens c) → answer ≡ true
+    → c .token < tokenCount tokens
+kind-there tokens kind c told is = asked-there (eqb kind) tokens c (sym told ∙ is)
 
-  module _ {sees : Tables → Type 0} {tokens : List ℕ} (rows : (t : Tables) → sees t → t .tokens ≡ tokens) {p : Parser} {m : Buffers}
-      {answer : Peeked} (told : peek tokens (cursorOf (p .lexer)) ≡ peekedOf answer) where
-    pub none-next : answer ≡ End → Ran sees 0 (by-next if-next) p m (Went p) m
-    none-next e = arm-stays rows if-next (told ∙ ap peekedOf e) (λ s n q. refl)
+abbrev if-next : ℕ → RuleOf → RuleOf
+if-next kind read s n = ifNext (flat n) s kind (read s n)
 
-    module _ {next : ℕ} (e : answer ≡ Kind next) where
-      pub kind-next : {gain : ℕ} {r : Step} {v : Buffers} → next ≡ kind → Ran sees gain read p m r v → Ran sees 0 (by-next if-next) p m r v
-      kind-next is = arm-ran rows if-next (told ∙ ap peekedOf e) (λ s n q. rw (eq-eqb kind next (sym is)))
+module _ (tokens : List ℕ) (kind : ℕ) (p : Parser) {answer : Bool} (told : answer ≡ asked (eqb kind) (peek tokens (cursorOf (p .lexer))))
+    {sees : Tables → Type 0} (rows : (t : Tables) → sees t → t .tokens ≡ tokens) where
+  -- the tables answer the same
+  asks : {is : Bool} → answer ≡ is → (t : Tables) → sees t → asked (eqb kind) (peek (t .tokens) (cursorOf (p .lexer))) ≡ is
+  asks e t seen = rw (rows t seen) (sym told ∙ e)
 
-      pub other-next : (next ≡ kind → ⊥) → Ran sees 0 (by-next if-next) p m (Went p) m
-      other-next not = arm-stays rows if-next (told ∙ ap peekedOf e) (λ s n q. rw (ne-eqb kind next (λ same. not (sym same))))
+  module _ (read : RuleOf) {m : Buffers} where
+    pub kind-next : {gain : ℕ} {r : Step} {v : Buffers} → answer ≡ true → Ran sees gain read p m r v → Ran sees 0 (if-next kind read) p m r v
+    kind-next is k = ran-less (ran-as k (λ t seen n. rw (asks is t seen)))
+
+    pub other-next : answer ≡ false → Ran sees 0 (if-next kind read) p m (Went p) m
+    other-next is = nothing-done (λ t seen n. rw (asks is t seen))

@@ -8,6 +8,7 @@ pub use held::ignore_holding_trivia;
 pub use tokens::eat;
 pub use tokens::eat_as;
 pub use tokens::eat_if;
+pub use tokens::next_is;
 pub use tokens::one_in;
 pub use tokens::single_char;
 pub use tokens::trivia;

@@ -1,5 +1,6 @@
 // Tokens become leaves: `eat`, `eat_as`, `eat_if`, `trivia`, `single_char`, and a node with one token in it.
 ghost use mathlib.Core.Path.{_≡_};
+ghost use lib.Dec.{eqb};
 ghost use Rattle.rules.specs.Flat.{flat};
 ghost use Rattle.rules.specs.Cursor.{peek};
 ghost use Rattle.rules.specs.Kinds.{isTrivia};
@@ -38,15 +39,22 @@ pub fn eat(tokens: &[u32], tree: &mut [u32], p: Parser) -> Step
     eat_as(tokens, tree, p, kind)
 }
 
+// Whether a token of this kind is next.
+pub fn next_is(tokens: &[u32], p: Parser, kind: u32) -> bool
+    ensures { λ r. ⌜ r ≡ asked (eqb kind) (peek (now (tokens .entry)) (cursorOf (p .lexer))) ⌝ }
+{
+    let peeked = p.lexer.peek(tokens);
+    let Peeked::Kind(next) = peeked else {
+        return false;
+    };
+    kind == next
+}
+
 pub fn eat_if(tokens: &[u32], tree: &mut [u32], p: Parser, kind: u32) -> Step
     requires { ⌜ Somehow (Tokens tokens) p (now tree) ⌝ }
     ensures { λ r. ⌜ Grows (Tokens (tokens .entry)) tree p r 0 (λ s n. spec.eatIf (flat n) s kind) ⌝ }
 {
-    let peeked = p.lexer.peek(tokens);
-    let Peeked::Kind(next) = peeked else {
-        return Step::Went(p);
-    };
-    if next == kind {
+    if next_is(tokens, p, kind) {
         return eat(tokens, tree, p);
     }
     Step::Went(p)
@@ -96,11 +104,7 @@ pub fn single_char(tokens: &[u32], tree: &mut [u32], p: Parser, word: &[u8]) -> 
 pub fn word_next(tokens: &[u32], p: Parser) -> bool
     ensures { λ r. ⌜ r ≡ asked isWord (peek (now (tokens .entry)) (cursorOf (p .lexer))) ⌝ }
 {
-    let peeked = p.lexer.peek(tokens);
-    let Peeked::Kind(kind) = peeked else {
-        return false;
-    };
-    kind == Token::WORD
+    next_is(tokens, p, Token::WORD)
 }
 
 // One character of a Word.

@@ -13,12 +13,11 @@ use Rattle.rules.specs.Tables.{tokenCount}
 use Rattle.lexer.proofs.Laws.{eaten-fine, left-eaten}
 use Rattle.builder.proofs.Numbers.{one-more, the-rest}
 use Rattle.state.specs.Stands.{Buffers, posOf}
-use Rattle.state.specs.Contract.{Ready, Left}
+use Rattle.state.specs.Contract.{Ready, Left, buffers}
 use Rattle.skipped.specs.Body.{RowFree, Dropped, dropping}
 use Rattle.state.specs.declared.Parser.{Parser}
 use Rattle.state.specs.declared.Step.the-variants.{Went}
 use Rattle.state.proofs.Left.{remains}
-use Rattle.state.proofs.Outside.{beside}
 use Rattle.state.proofs.Walk.{Call, passing}
 
 -- there is room for its row
@@ -32,12 +31,12 @@ row-free ready there =
     record { room = omega arith; token = omega arith; leaves = omega arith }
 
 module _ {t : Tables} {reason : ℕ} {p q : Parser} {tree notes after : List ℕ} (done : Dropped reason p notes q after)
-    (ready : Ready t p (beside notes tree)) (there : p .lexer .token < tokenCount (t .tokens)) where
-  dropped-is : (n : ℕ) → dropNext (flat n) (sourceOf t) reason (posOf p (beside notes tree)) ≡ went (posOf q (beside after tree))
+    (ready : Ready t p (buffers tree notes)) (there : p .lexer .token < tokenCount (t .tokens)) where
+  dropped-is : (n : ℕ) → dropNext (flat n) (sourceOf t) reason (posOf p (buffers tree notes)) ≡ went (posOf q (buffers tree after))
   unfolding dropNext
   dropped-is n = rw (done .is, one-more droppedWidth (p .dropped) notes after _ refl (row-free ready there .room) (done .row))
 
-  dropped-left : Left t 1 p (beside notes tree) (dropping p) (beside after tree)
+  dropped-left : Left t 1 p (buffers tree notes) (dropping p) (buffers tree after)
   dropped-left =
       let s = ready .steady in
       let less = left-eaten (s .fine) there in
@@ -51,8 +50,8 @@ module _ {t : Tables} {reason : ℕ} {p q : Parser} {tree notes after : List ℕ
 -- the step of a walk
 pub drops : {t : Tables} {reason : ℕ} {p q : Parser} {tree notes after : List ℕ} {lift : ℕ} → Dropped reason p notes q after
     → p .lexer .token < tokenCount (t .tokens)
-    → Call t (λ n d. dropNext (flat n) (sourceOf t) reason) lift (λ u. Left t 1 p (beside notes tree) u (beside after tree))
-    p (beside notes tree) (Went q) (beside after tree)
+    → Call t (λ n d. dropNext (flat n) (sourceOf t) reason) lift (λ u. Left t 1 p (buffers tree notes) u (buffers tree after))
+    p (buffers tree notes) (Went q) (buffers tree after)
 drops {tree = tree} done there = record {
   is = λ ready d h. dropped-is done ready there (length tree);
   gone = λ ready. rw (done .is) (dropped-left done ready there);

@@ -19,7 +19,7 @@ use Rattle.rules.specs.Token.{EndIf}
 use Rattle.lexer.specs.Reading.{cursorOf}
 use Rattle.lexer.proofs.Laws.{peek-some, peek-none, left-some}
 use Rattle.state.specs.Stands.{posOf}
-use Rattle.state.specs.Contract.{Ready, Ran, RuleOf, Known, leftOf}
+use Rattle.state.specs.Contract.{Ready, Ran, RuleOf, Known, leftOf, buffers}
 use Rattle.skipped.specs.Body.{Dropped, inBody, nestedBehind}
 use Rattle.state.specs.declared.Parser.{Parser}
 use Rattle.state.specs.declared.Step.{Step}
@@ -27,7 +27,6 @@ use Rattle.state.specs.declared.Step.the-variants.{Went}
 use Rattle.skipped.proofs.Dropping.{drops}
 use Rattle.routines.proofs.Eating.{asked-there}
 use Rattle.state.proofs.Loop.{Far, OneTurn, far-begins, one-turn, less-left, far-goes-on}
-use Rattle.state.proofs.Outside.{beside}
 use Rattle.state.proofs.Walk.{Rule, line, turns, stops, arrives, hands-on, ran, ran-by, ran-less, Stopped}
 
 -- a token of the body is eaten, whatever it is, and the nesting is what it leaves
@@ -59,9 +58,9 @@ more t nested fuel n d = eatBodyOfIfs (flat n) (sourceOf t) fuel nested
 
 -- the walk so far, from p and `tree` to q and `after`, no deeper nested than was read: for all tables that agree
 pub record Skipping (tokens : List ℕ) (p : Parser) (tree notes : List ℕ) (nested : ℕ) (q : Parser) (after : List ℕ) : Type 0 where
-  pub far : (t : Tables) → Sees tokens t → Ready t p (beside notes tree)
-      → Far t (λ n d. skipping (sourceOf t) n) (more t nested) p (beside notes tree) q (beside notes after)
-  pub shallow : (t : Tables) → Sees tokens t → Ready t p (beside notes tree) → nested + leftOf t q ≤ leftOf t p
+  pub far : (t : Tables) → Sees tokens t → Ready t p (buffers tree notes)
+      → Far t (λ n d. skipping (sourceOf t) n) (more t nested) p (buffers tree notes) q (buffers after notes)
+  pub shallow : (t : Tables) → Sees tokens t → Ready t p (buffers tree notes) → nested + leftOf t q ≤ leftOf t p
 
 pub skipping-begins : {tokens : List ℕ} {p : Parser} {tree notes : List ℕ} → Skipping tokens p tree notes 0 p tree
 skipping-begins = record { far = λ t seen ready. far-begins ready (λ n d. refl); shallow = λ t seen ready. omega arith }
@@ -69,10 +68,10 @@ skipping-begins = record { far = λ t seen ready. far-begins ready (λ n d. refl
 module _ {tokens : List ℕ} {p : Parser} {tree notes : List ℕ} {nested : ℕ} {q : Parser} {after : List ℕ}
     (e : Skipping tokens p tree notes nested q after) where
   -- where the routine began ready, it is so
-  pub skipping-ready : Known (Sees tokens) p (beside notes tree) → Known (Sees tokens) q (beside notes after)
+  pub skipping-ready : Known (Sees tokens) p (buffers tree notes) → Known (Sees tokens) q (buffers after notes)
   skipping-ready k = record { t = k .t; seen = k .seen; ready = e .far (k .t) (k .seen) (k .ready) .walk .ready }
 
-  pub skipping-long : Known (Sees tokens) p (beside notes tree) → length after ≡ length tree
+  pub skipping-long : Known (Sees tokens) p (buffers tree notes) → length after ≡ length tree
   skipping-long k = e .far (k .t) (k .seen) (k .ready) .walk .passed .tree-long
 
   -- what the code was told of the test
@@ -89,7 +88,7 @@ module _ {tokens : List ℕ} {p : Parser} {tree notes : List ℕ} {nested : ℕ}
       is-in = rw (peek-some tokens (cursorOf (q .lexer)) skipping-there) at (sym told ∙ yes)
 
       -- it is not nested too deep to be counted, and the cell that was read is of the body
-      pub skipping-in : {cell : ℕ} → cell ≡ kind → Known (Sees tokens) p (beside notes tree) → (nested < 2 ^ 63) × (inBody nested cell ≡ true)
+      pub skipping-in : {cell : ℕ} → cell ≡ kind → Known (Sees tokens) p (buffers tree notes) → (nested < 2 ^ 63) × (inBody nested cell ≡ true)
       skipping-in is k =
           let shallow = e .shallow (k .t) (k .seen) (k .ready) in
           let light = k .ready .steady .light in
@@ -97,19 +96,19 @@ module _ {tokens : List ℕ} {p : Parser} {tree notes : List ℕ} {nested : ℕ}
 
       -- one turn of it: a token is eaten, and then it goes on
       turn-is : (t : Tables) → Sees tokens t → (fuel n d : ℕ)
-          → more t nested (suc fuel) n d (posOf q (beside notes after))
-          ≡ bind (eat (flat n) (sourceOf t) (posOf q (beside notes after))) (more t (nestedBehind nested kind) fuel n d)
+          → more t nested (suc fuel) n d (posOf q (buffers after notes))
+          ≡ bind (eat (flat n) (sourceOf t) (posOf q (buffers after notes))) (more t (nestedBehind nested kind) fuel n d)
       unfolding eatBodyOfIfs
       turn-is t seen fuel n d =
           let next : peek (t .tokens) (cursorOf (q .lexer)) ≡ some kind = rw seen (peek-some tokens (cursorOf (q .lexer)) skipping-there) in
           rw next (of-body (eqb EndIf kind) (eqb nested 0) (isIf kind) nested _
-          (λ deep. bind (eat (flat n) (sourceOf t) (posOf q (beside notes after))) (more t deep fuel n d)) is-in)
+          (λ deep. bind (eat (flat n) (sourceOf t) (posOf q (buffers after notes))) (more t deep fuel n d)) is-in)
 
-      turn : (t : Tables) → Sees tokens t → Ready t p (beside notes tree)
-          → OneTurn t (λ n d. skipping (sourceOf t) n) (more t (nestedBehind nested kind)) p (beside notes tree) q (beside notes after)
+      turn : (t : Tables) → Sees tokens t → Ready t p (buffers tree notes)
+          → OneTurn t (λ n d. skipping (sourceOf t) n) (more t (nestedBehind nested kind)) p (buffers tree notes) q (buffers after notes)
       turn t seen ready = one-turn (more t nested) (more t (nestedBehind nested kind)) (rw seen skipping-there) (turn-is t seen) (e .far t seen ready)
 
-      module _ {r : Step} {last : List ℕ} (ate : Ran (Sees tokens) 1 (λ s n. eat (flat n) s) q (beside notes after) r (beside notes last)) where
+      module _ {r : Step} {last : List ℕ} (ate : Ran (Sees tokens) 1 (λ s n. eat (flat n) s) q (buffers after notes) r (buffers last notes)) where
         -- the code computed the nesting from the cell that it read
         pub skipping-goes-on : {z : Parser} {deep cell : ℕ} → deep ≡ nestedBehind nested cell → cell ≡ kind → r ≡ Went z
             → Skipping tokens p tree notes deep z last
@@ -127,13 +126,13 @@ module _ {tokens : List ℕ} {p : Parser} {tree notes : List ℕ} {nested : ℕ}
             one-deeper false true = omega arith
             one-deeper false false = omega arith
 
-        pub skipping-less : {z : Parser} → Known (Sees tokens) p (beside notes tree) → r ≡ Went z
+        pub skipping-less : {z : Parser} → Known (Sees tokens) p (buffers tree notes) → r ≡ Went z
             → left tokens (cursorOf (z .lexer)) < left tokens (cursorOf (q .lexer))
         skipping-less k went-on =
             let less = less-left (turn (k .t) (k .seen) (k .ready)) (ran (k .seen) ate) went-on in
             rw (← k .seen) (omega arith)
 
-        pub skipping-stops : {any : List ℕ} → Stopped r → Ran (Sees tokens) 0 skipping p (beside notes tree) r (beside notes any)
+        pub skipping-stops : {any : List ℕ} → Stopped r → Ran (Sees tokens) 0 skipping p (buffers tree notes) r (buffers any notes)
         skipping-stops st = ran-by (λ t seen ready. stops (turn t seen ready .walk) (ran seen ate) st)
 
     -- the next token is the \fi
@@ -141,9 +140,9 @@ module _ {tokens : List ℕ} {p : Parser} {tree notes : List ℕ} {nested : ℕ}
       not-in : inBody nested (kindAt tokens (q .lexer .token)) ≡ false
       not-in = rw (peek-some tokens (cursorOf (q .lexer)) there) at (sym told ∙ no)
 
-      closed : (t : Tables) → Sees tokens t → (fuel : ℕ) → leftOf t q ≤ fuel → Ready t q (beside notes after) → (n d : ℕ)
-          → line (more t nested fuel ∷ []) n d (posOf q (beside notes after))
-          ≡ line ((λ n d. dropNext (flat n) (sourceOf t) reasonCloser) ∷ []) n d (posOf q (beside notes after))
+      closed : (t : Tables) → Sees tokens t → (fuel : ℕ) → leftOf t q ≤ fuel → Ready t q (buffers after notes) → (n d : ℕ)
+          → line (more t nested fuel ∷ []) n d (posOf q (buffers after notes))
+          ≡ line ((λ n d. dropNext (flat n) (sourceOf t) reasonCloser) ∷ []) n d (posOf q (buffers after notes))
       unfolding eatBodyOfIfs line
       closed t seen zero enough ready n d =
           let here : q .lexer .token < tokenCount (t .tokens) = rw seen there in
@@ -155,7 +154,7 @@ module _ {tokens : List ℕ} {p : Parser} {tree notes : List ℕ} {nested : ℕ}
           rw (next, the-end (eqb EndIf (kindAt tokens (q .lexer .token))) (eqb nested 0) _ _ _ not-in)
 
       pub skipping-closes : {z : Parser} {last : List ℕ} → Dropped reasonCloser q notes z last
-          → Ran (Sees tokens) 0 skipping p (beside notes tree) (Went z) (beside last after)
+          → Ran (Sees tokens) 0 skipping p (buffers tree notes) (Went z) (buffers after last)
       skipping-closes done = ran-less (ran-by (λ t seen ready.
           let f = e .far t seen ready in
           let here : q .lexer .token < tokenCount (t .tokens) = rw seen there in
@@ -164,12 +163,12 @@ module _ {tokens : List ℕ} {p : Parser} {tree notes : List ℕ} {nested : ℕ}
   -- no token is left
   module _ (none-left : tokenCount tokens ≤ q .lexer .token) where
     ended : (t : Tables) → Sees tokens t → (fuel n d : ℕ)
-        → line (more t nested fuel ∷ []) n d (posOf q (beside notes after)) ≡ line [] n d (posOf q (beside notes after))
+        → line (more t nested fuel ∷ []) n d (posOf q (buffers after notes)) ≡ line [] n d (posOf q (buffers after notes))
     unfolding eatBodyOfIfs line
     ended t seen zero n d = refl
     ended t seen (suc fuel) n d =
         let next : peek (t .tokens) (cursorOf (q .lexer)) ≡ none = rw seen (peek-none tokens (cursorOf (q .lexer)) none-left) in
         rw next
 
-    pub skipping-ends : Ran (Sees tokens) 0 skipping p (beside notes tree) (Went q) (beside notes after)
+    pub skipping-ends : Ran (Sees tokens) 0 skipping p (buffers tree notes) (Went q) (buffers after notes)
     skipping-ends = ran-by (λ t seen ready. let f = e .far t seen ready in arrives (turns (f .walk) (ended t seen (f .fuel))))

@@ -9,6 +9,9 @@ use Rattle.rules.specs.Outcome.{Out, went, bind}
 use Rattle.rules.specs.Flat as flat
 use Rattle.rules.specs.Position as spec
 use Rattle.rules.specs.Checks.{Tables}
+use Rattle.rules.specs.Tables.{tokenCount}
+use Rattle.lexer.specs.Fine.{Fine}
+use Rattle.lexer.specs.Reading.{cursorOf}
 use Rattle.builder.specs.Stands as shown
 use Rattle.builder.specs.Contract as told
 use Rattle.builder.specs.declared.GreenNodeBuilder.{GreenNodeBuilder}
@@ -26,6 +29,23 @@ use Rattle.state.proofs.Walk.{passing}
 -- a mark is good for more rows too
 pub mark-more : (m : KeptMark) (b u : GreenNodeBuilder) → b .rows ≤ u .rows → MarkOk m b → MarkOk m u
 mark-more m b u more ok = record { children = ok .children; row = omega arith }
+
+-- the same list, with what a step passed: its marks stay good, and no more is to be written
+pub steady-more : {t : Tables} {gain : ℕ} {p : Parser} {m : Buffers} {q : Parser} {v : Buffers} → Steady t p m → Passed t gain p m q v
+    → q .list ≡ p .list → Fine (t .text) (t .tokens) (cursorOf (q .lexer)) → q .lexer .token ≤ tokenCount (t .tokens) → q .dropped ≤ q .lexer .token
+    → told.Fits (q .builder) (v .tree) → Steady t q v
+steady-more {p = p} {q = q} s passed list fine inside few fits =
+    record {
+      good = s .good;
+      fine = fine;
+      token = inside;
+      fits = fits;
+      start = rw list (mark-more (p .list .start) (p .builder) (q .builder) (passed .rows) (s .start));
+      last = rw list (mark-more (p .list .last) (p .builder) (q .builder) (passed .rows) (s .last));
+      dropped = few;
+      notes = let room = s .notes in let long = passed .notes-long in omega arith;
+      light = let bound = s .light in let lighter = passed .light in omega arith;
+    }
 
 module _ (p : Parser) (t v notes : List ℕ) where
   abbrev before : Buffers
@@ -53,22 +73,6 @@ module _ (p : Parser) (t v notes : List ℕ) where
   built-told {Q} {r} {x} rule o e is same f =
       rw e (record { is = same ∙ outcome o x is; gone = goes Q x f })
 
-  -- the same tables, lists and tokens, with more rows
-  pub steadier : {tables : Tables} (u : GreenNodeBuilder) → Steady tables p before → told.Fits u v → p .builder .rows ≤ u .rows
-      → u .leaves ≡ p .builder .leaves → Steady tables (rebuilt p u) after
-  steadier u s fits more leaves =
-      record {
-        good = s .good;
-        fine = s .fine;
-        token = s .token;
-        fits = fits;
-        start = mark-more (p .list .start) (p .builder) u more (s .start);
-        last = mark-more (p .list .last) (p .builder) u more (s .last);
-        dropped = s .dropped;
-        notes = s .notes;
-        light = let bound = s .light in omega arith;
-      }
-
   pub on-the-way : {tables : Tables} (u : GreenNodeBuilder) → length v ≡ length t → drop (u .rows * 4) v ≡ drop (u .rows * 4) t
       → p .builder .rows ≤ u .rows → u .leaves ≡ p .builder .leaves
       → Passed tables 0 p before (rebuilt p u) after
@@ -78,9 +82,10 @@ module _ (p : Parser) (t v notes : List ℕ) where
       → Begun tables p before (rebuilt p u) after
   begun u long s f =
       let rows = f .rows in
+      let passed = on-the-way u long (f .rest) (omega arith) (f .leaves) in
       record {
-        passed = on-the-way u long (f .rest) (omega arith) (f .leaves);
-        ready = record { steady = steadier u s (f .fits) (omega arith) (f .leaves); within = f .within };
+        passed = passed;
+        ready = record { steady = steady-more s passed refl (s .fine) (s .token) (s .dropped) (f .fits); within = f .within };
         few = f .few;
         depth = f .depth;
         list = refl;
@@ -92,9 +97,10 @@ module _ (p : Parser) (t v notes : List ℕ) where
       → Ended tables (frame .first) (frame .node) p before (rebuilt p u) after
   ended u frame long s f =
       let rows = f .rows in
+      let passed = on-the-way u long (f .rest) (omega arith) (f .leaves) in
       record {
-        passed = on-the-way u long (f .rest) (omega arith) (f .leaves);
-        steady = steadier u s (f .fits) (omega arith) (f .leaves);
+        passed = passed;
+        steady = steady-more s passed refl (s .fine) (s .token) (s .dropped) (f .fits);
         depth = f .depth;
         first-is = f .first;
         node-is = f .node;

@@ -16,10 +16,6 @@ use Rattle.state.specs.declared.Step.the-variants.{Went}
 use Rattle.state.proofs.Turn.{Turn, calls, opening, closing, done}
 use Rattle.state.proofs.Walk.{Rule, Call, Stopped, line, begins, ran, ran-by, somehow-then}
 
--- both buffers, by the one that is seen
-abbrev pub beside : List ℕ → List ℕ → Buffers
-beside notes tree = record { tree = tree; dropped = notes }
-
 -- a node that p begins and ends around these steps
 abbrev pub node-around : ℕ → Parser → List Rule → List Rule
 node-around kind p inner =

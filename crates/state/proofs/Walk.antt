@@ -297,32 +297,6 @@ hands-on {t} {f = f} {gain} {more} {s} {m} {u} {v} {r} {x} w k =
       }) (k .gone (w .ready));
     }
 
--- the last step ends the node that the routine opened
-pub ends : {t : Tables} {rule f : Rule} {gain : ℕ} {s : Parser} {m : Buffers} {u : Parser} {v : Buffers} {r : Step} {x : Buffers}
-    → Ready t s m → Walk t rule (f ∷ []) gain 1 (s .list .scope) s m u v
-    → Call t f 1 (λ q. Ended t (s .builder .first) (s .builder .node) u v q x) u v r x
-    → Runs t gain (λ n d. rule n d (posOf s m)) s m r x
-ends {t} {f = f} {gain} {s} {m} {u} {v} {r} {x} ready w k =
-    let depth = w .depth in
-    let within = ready .within in
-    let rows = w .passed .rows in
-    record {
-      is = λ d h. w .is d h ∙ last-step f (length (m .tree)) d (posOf u v) ∙ call-is w k d h;
-      gone = gone-map {Q = λ q. Left t gain s m q x} r (λ q e.
-          let passed = passed-then (w .passed) (e .passed) in
-          let first = e .first-is in
-          let node = e .node-is in
-          let shallower = e .depth in
-          record {
-            passed = weaker gain (omega arith) passed;
-            ready = record { steady = e .steady; within = omega arith };
-            depth = omega arith;
-            first = first;
-            node = node;
-            scope = ap (λ l. l .scope) (e .list) ∙ w .scope-is;
-          }) (k .gone (w .ready));
-    }
-
 -- a rule that does not ask for the level
 pub levelless : {t : Tables} {want : ℕ → Here → Out Here} {gain : ℕ} {p : Parser} {m : Buffers} {r : Step} {v : Buffers}
     → Runs t gain (λ n d. want n (posOf p m)) p m r v → Told want (λ q. Left t gain p m q v) p m r v

@@ -32,7 +32,7 @@ use Rattle.state.specs.declared.Step.the-variants.{Went, Refused}
 
 -- ---- what a routine may assume
 
--- a mark was made when there were no more rows than now; no mark has row 0, so this holds of it everywhere
+-- a mark was made when there were no more rows than now; that there is none is kept as row 0, for which this holds everywhere
 abbrev pub MarkOk : KeptMark → GreenNodeBuilder → Type 0
 MarkOk m b = Inside (checkpointOf m) b
 

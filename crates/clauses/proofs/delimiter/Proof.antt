@@ -19,7 +19,7 @@ use Rattle.state.specs.Contract.{RuleOf, Somehow, There, Tokens}
 use Rattle.state.specs.Stands.{Here}
 use Rattle.lexer.proofs.Laws.{peeked}
 use Rattle.routines.proofs.ByNext.{arm-ran, arm-stays}
-use Rattle.routines.proofs.Leaves.{fine-of, seen-less}
+use Rattle.routines.proofs.Leaves.{seen-less}
 use Rattle.state.proofs.Outside.{ran-seeing}
 use Rattle.clauses.proofs.delimiter.Statement.{statement}
 use Rattle.clauses.proofs.delimiter.Tie as tie
@@ -101,25 +101,18 @@ returns-4 c notes =
     arm-stays (λ t seen. seen .1) of (next-is here) (is-dollar (kind-of here) (plain-of (returns-4→else2 c)) (eq-eqb _ _ (c .if3 .taken)))
 
 -- a Word
-peek-text-requires : tie.Need-peek-text-requires
-peek-text-requires c κs =
-    let next = peeked _ _ (single-char-arg→peek c .peek .ensures) (single-char-arg→peeked c .peeked .given .1) in
-    (next .there, fine-of (single-char-arg→entry c .pre))
-
-single-char-requires : tie.Need-single-char-requires
-single-char-requires c κs =
-    let next = peeked _ _ (peek-text→peek c .peek .ensures) (peek-text→peeked c .peeked .given .1) in
-    let word = next .is ∙ peek-text→then4 c .if4 .taken in
-    ((next .there, word), seen-less (λ t seen. (seen .1, rw (seen .0) (c .peek-text .ensures))) (peek-text→entry c .pre))
+word-character-requires : tie.Need-word-character-requires
+word-character-requires c κs =
+    let next = peeked _ _ (word-character-arg→peek c .peek .ensures) (word-character-arg→peeked c .peeked .given .1) in
+    ((next .there, next .is ∙ word-character-arg→then4 c .if4 .taken), word-character-arg→entry c .pre)
 
 returns-5 : tie.Need-returns-5
 unfolding spec.delimiter
 returns-5 c notes =
     let here = returns-5→peeked c in
     let word = eq-eqb _ _ (returns-5→then4 c .if4 .taken) in
-    let text = returns-5→peek-text c .peek-text .ensures in
     arm-ran (λ t seen. seen .1) of (next-is here) (is-word (kind-of here) (plain-of (returns-5→else2 c)) (no-dollar (returns-5→else3 c)) word)
-    (ran-seeing (λ t seen. (seen .1, rw (seen .0) text)) (returns-5→single-char c .single-char .ensures notes))
+    (returns-5→word-character c .word-character .ensures notes)
 
 -- any other token
 returns-6 : tie.Need-returns-6
@@ -144,8 +137,7 @@ delimiter-spec =
     (λ c κs. search needs)
     returns-3
     returns-4
-    peek-text-requires
-    single-char-requires
+    word-character-requires
     (λ c. search needs)
     returns-5
     (λ c κs. there (eat-arg→peeked c))

@@ -49,41 +49,29 @@ returns-4→peeked c = else2→peeked (returns-4→else2 c)
 abbrev pub else3→peeked : tie.Else3 → tie.After-peeked
 else3→peeked c = c .before .before .before .before .before
 
-abbrev pub single-char-arg→peeked : tie.After-single-char-arg → tie.After-peeked
-single-char-arg→peeked c = c .before .before .before .before .before .before .before
+abbrev pub word-character-arg→then4 : tie.After-word-character-arg → tie.Then4
+word-character-arg→then4 c = c .before
 
-abbrev pub single-char-arg→peek : tie.After-single-char-arg → tie.After-peek
-single-char-arg→peek c = peeked→peek (single-char-arg→peeked c)
+abbrev pub word-character-arg→peeked : tie.After-word-character-arg → tie.After-peeked
+word-character-arg→peeked c = c .before .before .before .before .before .before .before
 
-abbrev pub single-char-arg→entry : tie.After-single-char-arg → tie.Start
-single-char-arg→entry c = peeked→entry (single-char-arg→peeked c)
+abbrev pub word-character-arg→peek : tie.After-word-character-arg → tie.After-peek
+word-character-arg→peek c = peeked→peek (word-character-arg→peeked c)
 
-abbrev pub peek-text→then4 : tie.After-peek-text → tie.Then4
-peek-text→then4 c = c .before .before
+abbrev pub word-character-arg→entry : tie.After-word-character-arg → tie.Start
+word-character-arg→entry c = peeked→entry (word-character-arg→peeked c)
 
-abbrev pub peek-text→peeked : tie.After-peek-text → tie.After-peeked
-peek-text→peeked c = c .before .before .before .before .before .before .before .before
-
-abbrev pub peek-text→peek : tie.After-peek-text → tie.After-peek
-peek-text→peek c = peeked→peek (peek-text→peeked c)
-
-abbrev pub peek-text→entry : tie.After-peek-text → tie.Start
-peek-text→entry c = peeked→entry (peek-text→peeked c)
-
-abbrev pub returns-5→single-char : tie.After-slice-known3 → tie.After-single-char
-returns-5→single-char c = c .before .before
-
-abbrev pub returns-5→peek-text : tie.After-slice-known3 → tie.After-peek-text
-returns-5→peek-text c = c .before .before .before
+abbrev pub returns-5→word-character : tie.After-slice-known3 → tie.After-word-character
+returns-5→word-character c = c .before .before
 
 abbrev pub returns-5→then4 : tie.After-slice-known3 → tie.Then4
-returns-5→then4 c = peek-text→then4 (returns-5→peek-text c)
+returns-5→then4 c = c .before .before .before .before
 
 abbrev pub returns-5→else3 : tie.After-slice-known3 → tie.Else3
-returns-5→else3 c = c .before .before .before .before .before .before
+returns-5→else3 c = c .before .before .before .before .before
 
 abbrev pub returns-5→else2 : tie.After-slice-known3 → tie.Else2
-returns-5→else2 c = c .before .before .before .before .before .before .before
+returns-5→else2 c = c .before .before .before .before .before .before
 
 abbrev pub returns-5→peeked : tie.After-slice-known3 → tie.After-peeked
 returns-5→peeked c = else2→peeked (returns-5→else2 c)

@@ -2,9 +2,8 @@
 use borrow.Author.Needs.{needs}
 use Rattle.rules.specs.Flat.{flat}
 use Rattle.rules.specs.Routines as spec
-use Rattle.lexer.proofs.Laws.{peeked}
 use Rattle.state.specs.Contract.{RuleOf}
-use Rattle.routines.proofs.ByNext.{none-next, kind-next, other-next}
+use Rattle.routines.proofs.ByNext.{kind-there, kind-next, other-next}
 use Rattle.routines.proofs.tokens.eat_if.Statement.{statement}
 use Rattle.routines.proofs.tokens.eat_if.Tie as tie
 mod At
@@ -20,13 +19,9 @@ eat-if-spec =
     tie.close
     (tie.spec
     (λ c κs. search needs)
-    (λ c. search needs)
-    (λ c. search needs)
-    (λ c notes. none-next (returns→entry c .args .kind) read (λ t seen. seen) (returns→peek c .peek .ensures) (c .enum-told .given .1))
     -- eat
-    (λ c κs. (peeked _ _ (eat-arg→peek c .peek .ensures) (eat-arg→peeked c .peeked .given .1) .there, eat-arg→entry c .pre))
+    (λ c κs. (kind-there _ _ _ (eat-arg→next-is c .next-is .ensures) (eat-arg→then1 c .if1 .taken), eat-arg→entry c .pre))
     (λ c. search needs)
     (λ c notes.
-    kind-next _ read (λ t seen. seen) (returns-2→peek c .peek .ensures) (returns-2→peeked c .peeked .given .1) (returns-2→then1 c .if1 .taken)
-    (returns-2→eat c .eat .ensures notes))
-    (λ c notes. other-next _ read (λ t seen. seen) (returns-3→peek c .peek .ensures) (returns-3→peeked c .peeked .given .1) (c .if1 .left)))
+    kind-next _ _ _ (returns→next-is c .next-is .ensures) (λ t seen. seen) read (returns→then1 c .if1 .taken) (returns→eat c .eat .ensures notes))
+    (λ c notes. other-next _ _ _ (returns-2→next-is c .next-is .ensures) (λ t seen. seen) read (c .if1 .left)))
