@@ -1,6 +1,5 @@
 // Refusal 3: the first token row that is not as it must be.
-ghost use mathlib.Core.Path.{_≡_};
-ghost use Prim.Native.Nat.{ℕ, _+_, _≤_, _<_};
+ghost use Prim.Native.Nat.{_+_, _≤_, _<_};
 ghost use lib.ListN.{length};
 ghost use Rattle.rules.specs.Tables.{lengthAt, startAt, tokenCount};
 ghost use Rattle.checks.specs.Checked.{Judged, FirstBad, wordRow, tokenRow};

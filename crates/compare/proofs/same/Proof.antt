@@ -23,7 +23,7 @@ module _ (one other : List ℕ) (size i : ℕ) where
   ends before few all = let here : i ≡ size = omega arith in holds (rw here at (before .is))
 
 abbrev Inv-loop : tie.InvT-loop
-Inv-loop one other size i₀ i = (i ≤ size) × SameUpto one other i
+Inv-loop one other size i₀ i = SameUpto one other i × (i ≤ size)
 
 abbrev μ-loop : tie.MeasureT-loop
 μ-loop one other size i₀ i = size - i
@@ -34,9 +34,9 @@ same-spec =
     (tie.spec
     Inv-loop
     μ-loop
-    (λ c. (search needs, none-yet))
+    (λ c. (none-yet, search needs))
     (λ c. search needs) (λ c. search needs)
     (λ c. search differs)
     (λ c. search needs) (λ c. search needs)
-    (λ c. (omega arith, search goes-on))
+    (λ c. (search goes-on, omega arith))
     (λ c. search ends))
