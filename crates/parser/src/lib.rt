@@ -270,8 +270,8 @@ fn arguments(
     Step::Went(now)
 }
 
-// The arguments that a shape asks for. The Rust asserts here that they aren't greedy. A \begin with a greedy shape gets refusal 5; a greedy command does
-// not come here. Last is cleared first and saved second, so it is empty afterwards.
+// The arguments that a shape asks for. The Rust asserts here that they aren't greedy. A \begin with a greedy shape gets refusal 5; a greedy command
+// does not come here. Last is cleared first and saved second, so it is empty afterwards.
 fn match_arguments(
     text: &[u8],
     tokens: &[u32],

@@ -15,7 +15,8 @@ use state::Mark;
 use state::Parser;
 use syntax::ParseScope;
 
-// How far is read: a new list of a scope, all that a greedy command takes, or one item. All three go through one loop, only for speed: see 'Only for speed' in lib.rt.
+// How far is read: a new list of a scope, all that a greedy command takes, or one item. That all three go through one loop is only for speed:
+// see that heading in lib.rt.
 pub enum Extent {
     List(ParseScope),
     Greedy,

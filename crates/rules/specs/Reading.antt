@@ -106,8 +106,8 @@ module _ (B : Builder) (source : Source) where
         ∷ [])
         p
 
-    -- the arguments that a shape asks for: none, and then nothing is held, or those that its matcher takes. "environment whose class 2 shape is greedy,
-    -- when its arguments are to be read" is refused 5. Of commands, only those with a matcher that isn't greedy come here (`commandOf`)
+    -- the arguments that a shape asks for: none, and then nothing is held, or those that its matcher takes. "environment whose class 2 shape is
+    -- greedy, when its arguments are to be read" is refused 5. Of commands, only those with a matcher that isn't greedy come here (`commandOf`)
     unfoldable pub argumentsOf : Shape → Rule B
     argumentsOf s p =
         cond (nameOnly s) (went (holdingNone B p))
