@@ -9,9 +9,9 @@ use Rattle.rules.specs.Notation.{Part, between, _of_, _of_shaped_, textO
 use Rattle.rules.specs.Run.{Answer, accepted, refusedAt, Ran, run}
 use Rattle.rules.specs.Token.{Whitespace, LeftCurly, RightCurly, LeftBracket, RightBracket, Apostrophe, Underscore, Caret, Word, NewLine, Generic, BeginEnvironment, EndEnvironment, IfFalse, If, EndIf, Left}
 
--- what a formula is expected to give: how many rows, the tree and the dropped rows; or a refusal's number and place
+-- what a formula is expected to give: how many rows, the tree, the fifth numbers in row order and the dropped rows; or a refusal's number and place
 pub data Expected : Type 0 where
-  gives : ℕ → Shown → List DroppedRow → Expected
+  gives : ℕ → Shown → List ℕ → List DroppedRow → Expected
   refuses : ℕ → ℕ → Expected
 
 pub record Case : Type 0 where
@@ -49,8 +49,8 @@ abbrev pub filled : List ℕ → ℕ → List ℕ
 filled rows size = rows ++ replicate (size - length rows) 7
 
 abbrev pub wanted : Case → Expected → Outcome
-wanted c (gives rows tree dropped) =
-    wrote rows (length dropped) (filled (rowsOf tree) (c .room)) (filled (droppedOf dropped) (droppedRoom c))
+wanted c (gives rows tree tokens dropped) =
+    wrote rows (length dropped) (filled (rowsOf tree tokens) (c .room)) (filled (droppedOf dropped) (droppedRoom c))
 wanted c (refuses number place) = refused number place (replicate (c .room) 0) (replicate (droppedRoom c) 0)
 
 abbrev pub cases : List Case
@@ -61,7 +61,7 @@ cases =
       shapes = [];
       states = [];
       room = 1000;
-      expected = gives 2 (Root nothing) [];
+      expected = gives 2 (Root nothing) [] [];
     }
     -- `'`: a plain leaf
     ∷ record {
@@ -69,23 +69,23 @@ cases =
       shapes = [];
       states = [];
       room = 1000;
-      expected = gives 3 (Root apostrophe) [];
+      expected = gives 3 (Root apostrophe) [] [];
     }
-    -- `a_b` with 43 numbers of room: refused 8 at 3
+    -- `a_b` with 54 numbers of room, in 01 43: refused 8 at 3
     ∷ record {
       formula = Word of "a" ∷ Underscore of "_" ∷ Word of "b" ∷ [];
       shapes = [];
       states = [];
-      room = 43;
+      room = 54;
       expected = refuses 8 3;
     }
-    -- with 44 accepted: Root[Attach[Arg[Text a] _ b]], 11 rows
+    -- with 55, in 01 44, accepted: Root[Attach[Arg[Text a] _ b]], 11 rows
     ∷ record {
       formula = Word of "a" ∷ Underscore of "_" ∷ Word of "b" ∷ [];
       shapes = [];
       states = [];
-      room = 44;
-      expected = gives 11 (Root (Attach (Arg (Text "a") & underscore & word "b"))) [];
+      room = 55;
+      expected = gives 11 (Root (Attach (Arg (Text "a") & underscore & word "b"))) [] [];
     }
     -- `a_^b`: Root[Attach[Attach[Arg[Arg[Text a] _] ^ b]]], 16 rows
     ∷ record {
@@ -93,7 +93,7 @@ cases =
       shapes = [];
       states = [];
       room = 1000;
-      expected = gives 16 (Root (Attach (Attach (Arg (Arg (Text "a") & underscore) & caret & word "b")))) [];
+      expected = gives 16 (Root (Attach (Attach (Arg (Arg (Text "a") & underscore) & caret & word "b")))) [] [];
     }
     -- `{a_}`: Root[Curly[{ Attach[Arg[Text a] _ Error[}]]]]
     ∷ record {
@@ -101,7 +101,7 @@ cases =
       shapes = [];
       states = [];
       room = 1000;
-      expected = gives 16 (Root (Curly (lbrace & Attach (Arg (Text "a") & underscore & Error rbrace)))) [];
+      expected = gives 16 (Root (Curly (lbrace & Attach (Arg (Text "a") & underscore & Error rbrace)))) [] [];
     }
     -- `a_\f12^c`, `\f` fixed 2: the second Attach has no Arg
     ∷ record {
@@ -120,7 +120,7 @@ cases =
       shapes = [];
       states = [];
       room = 1000;
-      expected = gives 19 (Root (Attach (Arg (Attach (Arg (Text "a") & underscore & Cmd (name "\\z"))) & caret & word "c"))) [];
+      expected = gives 19 (Root (Attach (Arg (Attach (Arg (Text "a") & underscore & Cmd (name "\\z"))) & caret & word "c"))) [] [];
     }
     -- `{x}{a}_\o b`, `\o` infix-greedy: refused 6 at 7
     ∷ record {
@@ -151,7 +151,7 @@ cases =
       shapes = greedy;
       states = [];
       room = 1000;
-      expected = gives 15 (Root (Cmd (name "\\d" & Arg (blank & Text "1" & newLine & Text "2")))) [];
+      expected = gives 15 (Root (Cmd (name "\\d" & Arg (blank & Text "1" & newLine & Text "2")))) [] [];
     }
     -- inside an environment it stops before `\\`
     ∷ record {
@@ -191,7 +191,7 @@ cases =
       shapes = [];
       states = [];
       room = 1000;
-      expected = gives 6 (Root (gone "\\iffalse" & BlockComment (blank & word "a"))) ((0, 2, 0) ∷ []);
+      expected = gives 6 (Root (gone "\\iffalse" & BlockComment (blank & word "a"))) [] ((0, 2, 0) ∷ []);
     }
     -- `\s[3]{a}`, `\s` glob with states (2,3,0), (0,0,0), (2,0,0): Cmd[\s Arg[Bracket] Arg[Curly]]
     ∷ record {
@@ -227,7 +227,7 @@ cases =
       shapes = range 0;
       states = [];
       room = 1000;
-      expected = gives 17 (Root (Attach (Arg (Text "a") & underscore & Cmd (name "\\r")) & Attach (caret & word "c"))) [];
+      expected = gives 17 (Root (Attach (Arg (Text "a") & underscore & Cmd (name "\\r")) & Attach (caret & word "c"))) [] [];
     }
     -- `\f 1 ^c`, `\f` fixed 2: the accepted argument drops the first blank, dropped (1,1,1); the second is left, and follows the command's node
     ∷ record {
@@ -236,7 +236,7 @@ cases =
       states = [];
       room = 1000;
       expected =
-          gives 15 (Root (Attach (Arg (Cmd (name "\\f" & gone " " & Arg (word "1")) & blank) & caret & word "c"))) ((1, 1, 1) ∷ []);
+          gives 15 (Root (Attach (Arg (Cmd (name "\\f" & gone " " & Arg (word "1")) & blank) & caret & word "c"))) [] ((1, 1, 1) ∷ []);
     }
     -- `\left ab`: the delimiter is the `a`; "what is left of the word is handed on", and is the text inside
     ∷ record {
@@ -244,14 +244,14 @@ cases =
       shapes = [];
       states = [];
       room = 1000;
-      expected = gives 12 (Root (LR (ClauseLR (name "\\left" & blank & word "a") & Text "b"))) [];
+      expected = gives 12 (Root (LR (ClauseLR (name "\\left" & blank & word "a") & Text "b"))) [] [];
     }
     -- `\f xy` with room for 7 rows: the leaf of `y` is the row too many. "A token is read once its last leaf is written", so it is refused 8 at 2
     ∷ record {
       formula = Generic of "\\f" shaped 1 ∷ Whitespace of " " ∷ Word of "xy" ∷ [];
       shapes = fixed 2;
       states = [];
-      room = 28;
+      room = 35;
       expected = refuses 8 2;
     }
     -- with room for 8: the argument's finish is, and the Word is read. Refused 8 at 3
@@ -259,11 +259,11 @@ cases =
       formula = Generic of "\\f" shaped 1 ∷ Whitespace of " " ∷ Word of "xy" ∷ [];
       shapes = fixed 2;
       states = [];
-      room = 32;
+      room = 40;
       expected = refuses 8 3;
     }
     ∷ []
 
 pub examples : map found cases ≡ map (λ (c : Case). wanted c (c .expected)) cases
-unfolding rowsOf the-run
+unfolding the-run
 examples = refl

@@ -10,12 +10,14 @@ use Rattle.rules.specs.Exactly
 use Rattle.rules.specs.Limits
 use Rattle.rules.specs.Notation.{Part, between, _of_, _of_shaped_, textOf, tokensOf, fixed, fixedEnvironment, range, greedy, left1, DroppedRow, droppedOf}
 use Rattle.rules.specs.Outcome.{Out, went, refused}
-use Rattle.rules.specs.Placed
-use Rattle.rules.specs.Placed.{Placed, placing}
 use Rattle.rules.specs.Position.{At, Source}
 use Rattle.rules.specs.Reading.{parse}
+use Rattle.rules.specs.Rowan
+use Rattle.rules.specs.Rowan.{rowan}
 use Rattle.rules.specs.Run.{Answer, accepted, refusedAt, Ran, run}
 use Rattle.rules.specs.Token.{LineBreak, Whitespace, LineComment, Word, Generic, BeginEnvironment, EndEnvironment, IfFalse, IfTypst, If, EndIf}
+use Rattle.rules.specs.Tree
+use Rattle.rules.specs.Tree.{Tree}
 
 pub record Formula : Type 0 where
   pub formula : List Part
@@ -31,24 +33,28 @@ abbrev pub firstRows : Answer → List ℕ → Option (List ℕ)
 firstRows (accepted rows count) buffer = some (take (count * Limits.droppedWidth) buffer)
 firstRows (refusedAt number place) buffer = none
 
+-- so many numbers the tree buffer has
+abbrev pub room : ℕ
+room = 1000
+
 abbrev pub ran : Formula → Ran
-ran f = run (tables f) (replicate 1000 7) (replicate (length (tokensOf (f .formula))) 7)
+ran f = run (tables f) (replicate room 7) (replicate (length (tokensOf (f .formula))) 7)
 
 abbrev pub written : Formula → Option (List ℕ)
 written f = firstRows (ran f .answer) (ran f .dropped)
 
 -- those that the definition reads off the run's one tree: `Exactly.dropped`, which the theorem names (`run-exactly`)
-abbrev pub ofTree : Source → List Placed → Option (List ℕ)
+abbrev pub ofTree : Source → List Tree → Option (List ℕ)
 ofTree source [] = none
 ofTree source (tree ∷ []) = some (Exactly.dropped source tree)
 ofTree source (tree ∷ another ∷ rest) = none
 
-abbrev pub readOff : Source → Out (At placing) → Option (List ℕ)
+abbrev pub readOff : Source → Out (At (rowan room)) → Option (List ℕ)
 readOff source (went p) = ofTree source (p .built .children)
 readOff source (refused number place) = none
 
 abbrev pub listed : Formula → Option (List ℕ)
-listed f = readOff (sourceOf (tables f)) (parse placing (sourceOf (tables f)) Placed.nothing)
+listed f = readOff (sourceOf (tables f)) (parse (rowan room) (sourceOf (tables f)) Rowan.nothing)
 
 abbrev pub formulas : List Formula
 formulas =
@@ -150,5 +156,5 @@ abbrev pub wanted : Formula → Option (List ℕ)
 wanted f = some (droppedOf (f .dropped))
 
 pub examples : map (λ (f : Formula). written f ∷ listed f ∷ []) formulas ≡ map (λ (f : Formula). wanted f ∷ wanted f ∷ []) formulas
-unfolding the-run Placed.leavesIn Placed.leavesAll Placed.leafed Placed.opened Placed.openedAt Placed.closed Placed.noted Exactly.greedyName Exactly.passes Exactly.isBlank Exactly.opensIf Exactly.blanksFrom Exactly.isBody Exactly.closing Exactly.droppedIn Exactly.droppedAll Exactly.droppedPassing
+unfolding the-run Tree.leavesIn Tree.leavesAll Rowan.token Rowan.pushed Rowan.startNode Rowan.startNodeAt Rowan.finishNode Exactly.greedyName Exactly.passes Exactly.isBlank Exactly.opensIf Exactly.blanksFrom Exactly.isBody Exactly.closing Exactly.droppedIn Exactly.droppedAll Exactly.droppedPassing
 examples = refl

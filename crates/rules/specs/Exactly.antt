@@ -5,22 +5,25 @@
 use Prim.Native.Nat.{ℕ, zero, suc, _+_, _*_, _-_}
 use mathlib.Core.Path.{_≡_}
 use mathlib.Core.Bool.{Bool, true, not, cond, _&&_, _||_}
-use mathlib.Core.List.{List, [], _∷_, _++_}
+use mathlib.Core.List.{List, [], _∷_, _++_, map}
 use mathlib.Core.Option.{Option, none, some}
 use lib.Dec.{eqb}
 use lib.ListN.{take}
 use Rattle.rules.specs.Checks.{Tables, sourceOf}
-use Rattle.rules.specs.Flat.{droppedRow, reasonTrivia, reasonOpener, reasonCloser}
+use Rattle.rules.specs.Flat.{four, droppedRow, reasonTrivia, reasonOpener, reasonCloser}
 use Rattle.rules.specs.Items.{classCommand, ofClass}
 use Rattle.rules.specs.Limits
 use Rattle.rules.specs.Matcher.{formGreedy, formInfixGreedy}
-use Rattle.rules.specs.Placed.{Placed, Places, leaf, node, none, more, leavesIn, leavesAll, bare, TreeOf}
-use Rattle.rules.specs.Position.{Source}
+use Rattle.rules.specs.Outcome.{went}
+use Rattle.rules.specs.Position.{Pos, Source}
+use Rattle.rules.specs.PutBack.{treeRows}
+use Rattle.rules.specs.Reading.{parse}
+use Rattle.rules.specs.Rowan.{Green, rowan, nothing}
 use Rattle.rules.specs.Run.{Ran}
 use Rattle.rules.specs.Scope.{among}
 use Rattle.rules.specs.SyntaxKind
 use Rattle.rules.specs.Tables.{kindAt, tokenCount}
-use Rattle.rules.specs.Tree.{layout}
+use Rattle.rules.specs.Tree.{Tree, Forest, leaf, node, none, more, layout, baseRows, leavesIn, leavesAll}
 use Rattle.rules.specs.Token
 
 module _ (source : Source) where
@@ -47,12 +50,12 @@ module _ (source : Source) where
   blanksFrom (suc n) token leaves = cond (isBlank token) (droppedRow token reasonTrivia leaves) [] ++ blanksFrom n (token + 1) leaves
 
   -- what stands between the end of what the node has read so far and an argument that it then accepted
-  abbrev pub passedBefore : ℕ → Placed → ℕ → List ℕ
+  abbrev pub passedBefore : ℕ → Tree → ℕ → List ℕ
   passedBefore behind (leaf l) leaves = []
   passedBefore behind (node kind from to inside) leaves = cond (eqb kind SyntaxKind.ClauseArgument) (blanksFrom (from - behind) behind leaves) []
 
   -- where a child ends: behind its token, or at the place at which it was ended
-  abbrev pub endOf : Placed → ℕ
+  abbrev pub endOf : Tree → ℕ
   endOf (leaf l) = l .token + 1
   endOf (node kind from to inside) = to
 
@@ -87,25 +90,25 @@ module _ (source : Source) where
   -- ---- the dropped rows of a tree, in order, where so many leaves stand before it
 
   unfoldable mutual
-    pub droppedIn : ℕ → Placed → List ℕ
+    pub droppedIn : ℕ → Tree → List ℕ
     droppedIn leaves (leaf l) = []
     droppedIn leaves (node kind from to inside) =
         cond (isBody kind from) (droppedRow from reasonOpener leaves ++ closerRow (closerOf from) (leaves + leavesAll inside))
         (cond (passes kind from) (droppedPassing from leaves inside) (droppedAll leaves inside))
 
     -- of children of a node that passes nothing itself
-    pub droppedAll : ℕ → Places → List ℕ
+    pub droppedAll : ℕ → Forest → List ℕ
     droppedAll leaves none = []
     droppedAll leaves (more t rest) = droppedIn leaves t ++ droppedAll (leaves + leavesIn t) rest
 
     -- of children of a command or a \begin that has read up to `behind`
-    pub droppedPassing : ℕ → ℕ → Places → List ℕ
+    pub droppedPassing : ℕ → ℕ → Forest → List ℕ
     droppedPassing behind leaves none = []
     droppedPassing behind leaves (more t rest) =
         passedBefore behind t leaves ++ (droppedIn leaves t ++ droppedPassing (endOf t) (leaves + leavesIn t) rest)
 
   -- the dropped rows of a run with this tree
-  abbrev pub dropped : Placed → List ℕ
+  abbrev pub dropped : Tree → List ℕ
   dropped tree = droppedIn 0 tree
 
   -- ---- what is proved of a run
@@ -121,11 +124,19 @@ module _ (source : Source) where
     no-row : Reasoned 0 []
     a-row : {n token reason leaves : ℕ} {rest : List ℕ} → Reason token reason → Reasoned n rest → Reasoned (suc n) (token ∷ reason ∷ leaves ∷ rest)
 
--- an accepted run of so many rows and dropped rows: what both buffers begin with
-pub record RanExactly (t : Tables) (rows count : ℕ) (r : Ran) : Type 0 where
-  pub tree : Placed
-  pub of : TreeOf (sourceOf t) tree
-  pub laid : take (rows * Limits.treeWidth) (r .tree) ≡ layout (bare tree)
+-- this is the tree of what is read: the one that rowan's builder makes, for a tree buffer of so many numbers
+pub record TreeOf (room : ℕ) (source : Source) (t : Tree) : Type 0 where
+  pub end : Pos Green ℕ
+  pub run : parse (rowan room) source nothing ≡ went end
+  pub is : end .built .children ≡ t ∷ []
+
+-- an accepted run of so many rows and dropped rows, with a tree buffer of so many numbers: what both buffers begin with
+pub record RanExactly (t : Tables) (room rows count : ℕ) (r : Ran) : Type 0 where
+  pub tree : Tree
+  pub of : TreeOf room (sourceOf t) tree
+  pub laid : take (rows * Limits.treeWidth) (r .tree) ≡ layout tree
+  -- "Demands 2 and 3 read the first four numbers as before."
+  pub base : map four (treeRows rows (r .tree)) ≡ baseRows tree
   pub only : take (count * Limits.droppedWidth) (r .dropped) ≡ dropped (sourceOf t) tree
   -- and the reason of each fits its token
   pub reasons : Reasoned (sourceOf t) count (take (count * Limits.droppedWidth) (r .dropped))

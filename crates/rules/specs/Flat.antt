@@ -7,9 +7,12 @@ use lib.Dec.{ltb, leb, eqb}
 use Rattle.rules.specs.Limits
 use Rattle.rules.specs.Outcome.{Out, went, refused, bind, markBeforeNode, tooManyOpen, noRoom}
 use Rattle.rules.specs.SyntaxKind.{ClauseArgument}
-use Rattle.rules.specs.Builder.{Builder}
+use Rattle.rules.specs.Builder.{Builder, Leaf}
 
--- "Tree row: tag (0 start, 1 leaf, 2 finish), kind, start, length; last two 0 unless a leaf. A finish names the kind it closes."
+-- ---- rows
+
+-- "Tree row: tag (0 start, 1 leaf, 2 finish), kind, start, length; last two 0 unless a leaf. A finish names the kind it closes.": the base's rows, of
+-- four numbers
 abbrev pub tagStart : ℕ
 tagStart = 0
 
@@ -27,6 +30,21 @@ startRow kind = tagStart ∷ kind ∷ 0 ∷ 0 ∷ []
 
 abbrev pub finishRow : ℕ → List ℕ
 finishRow kind = tagFinish ∷ kind ∷ 0 ∷ 0 ∷ []
+
+-- "Each tree row gets a fifth number: a leaf's own token, and for other rows the first token not wholly read just before the row was made." (02, #101)
+abbrev pub _at_ : List ℕ → ℕ → List ℕ
+row at token = row ++ (token ∷ [])
+
+infix 70 _at_
+-- "Demands 2 and 3 read the first four numbers as before."
+abbrev pub four : List ℕ → List ℕ
+four row = take 4 row
+
+-- a leaf's row
+abbrev pub rowOf : Leaf → List ℕ
+rowOf l = leafRow (l .kind) (l .start) (l .size) at l .token
+
+-- ---- the builder
 
 -- what was built so far
 pub record Rows : Type 0 where
@@ -53,7 +71,7 @@ pub record Frame : Type 0 where
   pub first : ℕ
   pub node : ℕ
 
--- "a row more than the tree buffer's length / 4"
+-- "a row more than the tree buffer's length / 4"; of 02's #101: "Room is then the buffer's length / 5"
 abbrev pub orNoRoom : ℕ → ℕ → Rows → Out Rows → Out Rows
 orNoRoom room place b go = cond (ltb (b .rows) (room / Limits.treeWidth)) go (refused noRoom place)
 
@@ -62,8 +80,8 @@ abbrev pub orTooManyOpen : ℕ → Rows → Out Rows → Out Rows
 orTooManyOpen place b go = cond (leb Limits.nodes (b .depth)) (refused tooManyOpen place) go
 
 -- a leaf is one finished child more of the innermost open node
-unfoldable pub leafed : ℕ → ℕ → ℕ → Rows → Rows
-leafed kind from size b =
+unfoldable pub leafed : Leaf → Rows → Rows
+leafed l b =
     record {
       rows = b .rows + 1;
       leaves = b .leaves + 1;
@@ -71,15 +89,15 @@ leafed kind from size b =
       children = b .children + 1;
       first = b .first;
       node = b .node;
-      tree = b .tree ++ leafRow kind from size;
+      tree = b .tree ++ rowOf l;
     }
 
-unfoldable pub leaf : ℕ → ℕ → ℕ → ℕ → ℕ → Rows → Out Rows
-leaf room place kind from size b = orNoRoom room place b (went (leafed kind from size b))
+unfoldable pub leaf : ℕ → ℕ → Leaf → Rows → Out Rows
+leaf room place l b = orNoRoom room place b (went (leafed l b))
 
 -- a node begins here: what comes next is its first child
-unfoldable pub started : ℕ → Rows → Rows
-started kind b =
+unfoldable pub started : ℕ → ℕ → Rows → Rows
+started place kind b =
     record {
       rows = b .rows + 1;
       leaves = b .leaves;
@@ -87,15 +105,15 @@ started kind b =
       children = b .children;
       first = b .children;
       node = b .rows;
-      tree = b .tree ++ startRow kind;
+      tree = b .tree ++ startRow kind at place;
     }
 
 unfoldable pub start : ℕ → ℕ → ℕ → Rows → Out Rows
-start room place kind b = orTooManyOpen place b (orNoRoom room place b (went (started kind b)))
+start room place kind b = orTooManyOpen place b (orNoRoom room place b (went (started place kind b)))
 
 -- the innermost open node ends, and becomes one finished child of its parent, whose frame is given back
-unfoldable pub finished : ℕ → Frame → Rows → Rows
-finished kind f b =
+unfoldable pub finished : ℕ → ℕ → Frame → Rows → Rows
+finished place kind f b =
     record {
       rows = b .rows + 1;
       leaves = b .leaves;
@@ -103,11 +121,11 @@ finished kind f b =
       children = b .first + 1;
       first = f .first;
       node = f .node;
-      tree = b .tree ++ finishRow kind;
+      tree = b .tree ++ finishRow kind at place;
     }
 
 unfoldable pub finish : ℕ → ℕ → ℕ → Frame → Rows → Out Rows
-finish room place kind f b = orNoRoom room place b (went (finished kind f b))
+finish room place kind f b = orNoRoom room place b (went (finished place kind f b))
 
 -- where the start row of a node that begins at a mark goes: "a wrap at an open node's own first child goes inside that node", behind its start row
 unfoldable pub startAtRow : Mark → Rows → ℕ
@@ -122,8 +140,8 @@ abbrev pub orMarkBeforeNode : ℕ → Mark → Rows → Out Rows → Out Rows
 orMarkBeforeNode place m b go = cond (ltb (m .children) (b .first)) (refused markBeforeNode place) go
 
 -- a node begins at a mark: what stood from there on is inside it
-unfoldable pub startedAt : ℕ → Mark → Rows → Rows
-startedAt kind m b =
+unfoldable pub startedAt : ℕ → ℕ → Mark → Rows → Rows
+startedAt place kind m b =
     record {
       rows = b .rows + 1;
       leaves = b .leaves;
@@ -131,12 +149,12 @@ startedAt kind m b =
       children = b .children;
       first = m .children;
       node = startAtRow m b;
-      tree = insert (startAtRow m b) (startRow kind) (b .tree);
+      tree = insert (startAtRow m b) (startRow kind at place) (b .tree);
     }
 
 -- "at one opening 6, then 7, then 8"
 unfoldable pub startAt : ℕ → ℕ → ℕ → Mark → Rows → Out Rows
-startAt room place kind m b = orMarkBeforeNode place m b (orTooManyOpen place b (orNoRoom room place b (went (startedAt kind m b))))
+startAt room place kind m b = orMarkBeforeNode place m b (orTooManyOpen place b (orNoRoom room place b (went (startedAt place kind m b))))
 
 abbrev pub markOf : Rows → Mark
 markOf b = record { children = b .children; row = b .rows }
@@ -183,7 +201,7 @@ flat room =
       Frame = Frame;
       mark = λ b. markOf (b .tree);
       frame = λ b. frameOf (b .tree);
-      leaf = λ place l b. onTree b (leaf room place (l .kind) (l .start) (l .size) (b .tree));
+      leaf = λ place l b. onTree b (leaf room place l (b .tree));
       start = λ place kind b. onTree b (start room place kind (b .tree));
       startAt = λ place kind m b. onTree b (startAt room place kind m (b .tree));
       finish = λ place kind f b. onTree b (finish room place kind f (b .tree));

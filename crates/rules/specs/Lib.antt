@@ -23,7 +23,6 @@ pub mod Rowan
 pub mod PutBack
 pub mod Computed
 pub mod Notation
-pub mod Placed
 pub mod Exactly
 pub mod QuestionCases
 pub mod DroppedCases

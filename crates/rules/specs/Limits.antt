@@ -26,9 +26,9 @@ states = 4096
 abbrev pub stateWidth : ℕ
 stateWidth = 3
 
--- "Tree row: tag .., kind, start, length"
+-- "Tree row: tag .., kind, start, length", and of 02's #101: "Each tree row gets a fifth number"
 abbrev pub treeWidth : ℕ
-treeWidth = 4
+treeWidth = 5
 
 -- "Dropped row: token index, reason .., leaves written before it."
 abbrev pub droppedWidth : ℕ

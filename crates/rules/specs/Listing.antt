@@ -45,12 +45,14 @@ wordRefused = 114 ∷ 101 ∷ 102 ∷ 117 ∷ 115 ∷ 101 ∷ 100 ∷ []
 abbrev pub wordD : List ℕ
 wordD = 100 ∷ []
 
--- "for each start or leaf its depth, kind, and a leaf's start and length"; any other row has no line
+-- "for each start or leaf its depth, kind, and a leaf's start and length"; any other row has no line. `treelist` "prints the new number last on each
+-- tree line" (02, #101)
 unfoldable pub treeLine : List ℕ → ℕ → ℕ → List ℕ
 treeLine tree row depth =
-    cond (eqb (tagAt tree row) tagStart) (line (decimal depth) (kindAt tree row ∷ []))
+    cond (eqb (tagAt tree row) tagStart) (line (decimal depth) (kindAt tree row ∷ cell Limits.treeWidth tree row 4 ∷ []))
     (cond (eqb (tagAt tree row) tagLeaf)
-    (line (decimal depth) (kindAt tree row ∷ cell Limits.treeWidth tree row 2 ∷ cell Limits.treeWidth tree row 3 ∷ []))
+    (line (decimal depth)
+    (kindAt tree row ∷ cell Limits.treeWidth tree row 2 ∷ cell Limits.treeWidth tree row 3 ∷ cell Limits.treeWidth tree row 4 ∷ []))
     [])
 
 -- so many rows from `row` on, when `depth` nodes are open there: a start opens one, a finish closes one if any is open

@@ -5,12 +5,10 @@ use Prim.Native.Char.{code}
 use Prim.Native.String.{String, [] as no-more, _∷_ as _before_}
 use mathlib.Core.List.{List, [], _∷_, _++_}
 use lib.ListN.{length}
-use Rattle.rules.specs.Flat.{droppedRow}
+use Rattle.rules.specs.Flat.{leafRow, startRow, finishRow, _at_, droppedRow}
 use Rattle.rules.specs.Items.{classCommand, classEnvironment}
 use Rattle.rules.specs.Matcher.{formFixed, formRange, formGreedy, formGlob, formLeft1, formInfixGreedy}
 use Rattle.rules.specs.SyntaxKind
-use Rattle.rules.specs.Tree as tree
-use Rattle.rules.specs.Tree.{Tree, nodeOf, forest, layouts}
 
 -- the bytes of a text; all texts here are of ASCII characters, whose code is their byte
 abbrev pub bytes : String → List ℕ
@@ -106,18 +104,23 @@ width (node kind inside) = width inside
 width (s & t) = width s + width t
 width (gone text) = length (bytes text)
 
--- the trees, where their text begins at a place
-abbrev pub treesAt : ℕ → Shown → List Tree
-treesAt at nothing = []
-treesAt at (leaf kind text) = tree.leaf kind at (length (bytes text)) ∷ []
-treesAt at (node kind inside) = nodeOf kind (treesAt at inside) ∷ []
-treesAt at (s & t) = treesAt at s ++ treesAt (at + width s) t
-treesAt at (gone text) = []
+-- the base's rows, where their text begins at a place
+abbrev pub rowsAt : ℕ → Shown → List (List ℕ)
+rowsAt begins nothing = []
+rowsAt begins (leaf kind text) = leafRow kind begins (length (bytes text)) ∷ []
+rowsAt begins (node kind inside) = startRow kind ∷ (rowsAt begins inside ++ (finishRow kind ∷ []))
+rowsAt begins (s & t) = rowsAt begins s ++ rowsAt (begins + width s) t
+rowsAt begins (gone text) = []
 
--- the tree rows
-unfoldable pub rowsOf : Shown → List ℕ
-unfolding layouts
-rowsOf t = layouts (forest (treesAt 0 t))
+-- rows one behind the other, each with its fifth number
+abbrev pub numbered : List (List ℕ) → List ℕ → List ℕ
+numbered [] tokens = []
+numbered (row ∷ rows) [] = []
+numbered (row ∷ rows) (token ∷ tokens) = row at token ++ numbered rows tokens
+
+-- the tree rows, with the fifth numbers in row order
+abbrev pub rowsOf : Shown → List ℕ → List ℕ
+rowsOf t tokens = numbered (rowsAt 0 t) tokens
 
 -- nodes
 abbrev pub Root : Shown → Shown

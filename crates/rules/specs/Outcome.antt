@@ -24,6 +24,6 @@ markBeforeNode = 6
 abbrev pub tooManyOpen : ℕ
 tooManyOpen = 7
 
--- "a row more than the tree buffer's length / 4"
+-- "a row more than the tree buffer's length / 4", and of 02's #101 "length / 5"
 abbrev pub noRoom : ℕ
 noRoom = 8

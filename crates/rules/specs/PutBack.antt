@@ -7,7 +7,7 @@ use mathlib.Core.Bool.{cond}
 use mathlib.Core.List.{List, [], _∷_, _++_, map}
 use lib.Dec.{eqb}
 use lib.ListN.{length, getD, take, drop}
-use Rattle.rules.specs.Flat.{tagLeaf, droppedRow}
+use Rattle.rules.specs.Flat.{four, tagLeaf, droppedRow}
 use Rattle.rules.specs.Limits
 use Rattle.rules.specs.Tables.{tokenCount, kindAt, startAt, lengthAt, part}
 use Rattle.rules.specs.Token
@@ -24,14 +24,21 @@ treeRows rows buffer = rowsOf Limits.treeWidth rows buffer
 abbrev pub droppedRows : ℕ → List ℕ → List (List ℕ)
 droppedRows drops buffer = rowsOf Limits.droppedWidth drops buffer
 
--- "Tree row: tag (0 start, 1 leaf, 2 finish), kind, start, length": start and length of each leaf, in row order
-abbrev pub leaves : List (List ℕ) → List (ℕ × ℕ)
+-- of a leaf: where its text starts, how long it is, and its token
+pub record Piece : Type 0 where
+  pub start : ℕ
+  pub size : ℕ
+  pub token : ℕ
+
+-- "Tree row: tag (0 start, 1 leaf, 2 finish), kind, start, length", and a leaf's own token: of each leaf, in row order
+abbrev pub leaves : List (List ℕ) → List Piece
 leaves [] = []
-leaves (row ∷ rows) = cond (eqb (getD row 0 0) tagLeaf) ((getD row 2 0, getD row 3 0) ∷ leaves rows) (leaves rows)
+leaves (row ∷ rows) =
+    cond (eqb (getD row 0 0) tagLeaf) (record { start = getD row 2 0; size = getD row 3 0; token = getD row 4 0 } ∷ leaves rows) (leaves rows)
 
 -- the text of each leaf
-abbrev pub textsOf : List ℕ → List (ℕ × ℕ) → List (List ℕ)
-textsOf text leaves = map (λ (l : ℕ × ℕ). part text (l .0) (l .1)) leaves
+abbrev pub textsOf : List ℕ → List Piece → List (List ℕ)
+textsOf text leaves = map (λ (l : Piece). part text (l .start) (l .size)) leaves
 
 abbrev pub tokenText : List ℕ → List ℕ → ℕ → List ℕ
 tokenText text tokens i = part text (startAt tokens i) (lengthAt tokens i)
@@ -40,7 +47,8 @@ tokenText text tokens i = part text (startAt tokens i) (lengthAt tokens i)
 abbrev pub withTexts : List ℕ → List ℕ → List (List ℕ) → List (List ℕ × List ℕ)
 withTexts text tokens dropped = map (λ (row : List ℕ). (row, tokenText text tokens (getD row 0 0))) dropped
 
--- "tree, leaf texts and dropped list with its texts": what can be stored of a run's rows where neither the text nor the token rows are kept
+-- "tree, leaf texts and dropped list with its texts": what can be stored of a run's rows where neither the text nor the token rows are kept. It takes
+-- the first four numbers of a row: "Demands 2 and 3 read the first four numbers as before."
 pub record Stored : Type 0 where
   -- tag and kind of each row
   pub tree : List (ℕ × ℕ)
@@ -49,9 +57,10 @@ pub record Stored : Type 0 where
 
 abbrev pub stored : List ℕ → List ℕ → List (List ℕ) → List (List ℕ) → Stored
 stored text tokens tree dropped =
+    let base = map four tree in
     record {
-      tree = map (λ (row : List ℕ). (getD row 0 0, getD row 1 0)) tree;
-      leafTexts = textsOf text (leaves tree);
+      tree = map (λ (row : List ℕ). (getD row 0 0, getD row 1 0)) base;
+      leafTexts = textsOf text (leaves base);
       dropped = withTexts text tokens dropped;
     }
 
@@ -80,25 +89,28 @@ tokenTexts text tokens = textsFrom text tokens 0 (tokenCount tokens)
 
 -- ---- token by token
 
--- the parts of a range: none is empty, each begins where the one before it ends, and the last ends where the range does
-pub data Parts : ℕ → ℕ → List (ℕ × ℕ) → Type 0 where
-  last : {start size : ℕ} → 1 ≤ size → Parts start size ((start, size) ∷ [])
-  more : {start size rest : ℕ} {parts : List (ℕ × ℕ)} → 1 ≤ size → Parts (start + size) rest parts → Parts start (size + rest) ((start, size) ∷ parts)
+-- the parts of a token's range: none is empty, each begins where the one before it ends, and the last ends where the range does. Each has the token
+pub data Parts (token : ℕ) : ℕ → ℕ → List Piece → Type 0 where
+  last : {start size : ℕ} → 1 ≤ size → Parts token start size (record { start = start; size = size; token = token } ∷ [])
+  more : {start size rest : ℕ} {parts : List Piece} → 1 ≤ size
+      → Parts token (start + size) rest parts
+      → Parts token start (size + rest) (record { start = start; size = size; token = token } ∷ parts)
 
 -- each token from the i-th on is a leaf, the parts of a split Word, or one dropped row, and there are no other leaves and dropped rows. Before them
--- k leaves were written, which is what a dropped row says of itself. So no token is passed over and none comes twice, whatever their ranges are
-pub data EachToken (tokens : List ℕ) : ℕ → ℕ → List (ℕ × ℕ) → List (List ℕ) → Type 0 where
+-- k leaves were written, which is what a dropped row says of itself; a leaf says its token. So no token is passed over and none comes twice, whatever
+-- their ranges are
+pub data EachToken (tokens : List ℕ) : ℕ → ℕ → List Piece → List (List ℕ) → Type 0 where
   end : {i k : ℕ} → i ≡ tokenCount tokens → EachToken tokens i k [] []
-  leaf : {i k : ℕ} {leaves : List (ℕ × ℕ)} {dropped : List (List ℕ)} → i < tokenCount tokens
+  leaf : {i k : ℕ} {leaves : List Piece} {dropped : List (List ℕ)} → i < tokenCount tokens
       → EachToken tokens (i + 1) (k + 1) leaves dropped
-      → EachToken tokens i k ((startAt tokens i, lengthAt tokens i) ∷ leaves) dropped
-  split : {i k : ℕ} {parts leaves : List (ℕ × ℕ)} {dropped : List (List ℕ)}
+      → EachToken tokens i k (record { start = startAt tokens i; size = lengthAt tokens i; token = i } ∷ leaves) dropped
+  split : {i k : ℕ} {parts leaves : List Piece} {dropped : List (List ℕ)}
       → i < tokenCount tokens
       → kindAt tokens i ≡ Token.Word
-      → Parts (startAt tokens i) (lengthAt tokens i) parts
+      → Parts i (startAt tokens i) (lengthAt tokens i) parts
       → EachToken tokens (i + 1) (k + length parts) leaves dropped
       → EachToken tokens i k (parts ++ leaves) dropped
-  drops : {i k reason : ℕ} {leaves : List (ℕ × ℕ)} {dropped : List (List ℕ)} → i < tokenCount tokens
+  drops : {i k reason : ℕ} {leaves : List Piece} {dropped : List (List ℕ)} → i < tokenCount tokens
       → EachToken tokens (i + 1) k leaves dropped
       → EachToken tokens i k leaves (droppedRow i reason k ∷ dropped)
 

@@ -18,7 +18,7 @@ backOf t r (accepted rows drops) = putBack (stored (t .text) (t .tokens) (treeRo
 backOf t r (refusedAt number place) = []
 
 abbrev pub wantedBack : Tables → Expected → List ℕ
-wantedBack t (gives rows tree dropped) = tokenTexts (t .text) (t .tokens)
+wantedBack t (gives rows tree tokens dropped) = tokenTexts (t .text) (t .tokens)
 wantedBack t (refuses number place) = []
 
 pub examples : map (λ (c : Case). backOf (tablesOf c) (ran c) (ran c .answer)) cases ≡ map (λ (c : Case). wantedBack (tablesOf c) (c .expected)) cases

@@ -4,8 +4,8 @@ use Prim.Native.String.{String}
 use mathlib.Core.Path.{_≡_, refl}
 use mathlib.Core.Bool.{Bool, true, false}
 use mathlib.Core.List.{List, [], _∷_, _++_, map}
-use Rattle.rules.specs.Flat.{leafRow, startRow, finishRow, tagFinish}
-use Rattle.rules.specs.Notation.{bytes, Shown, nothing, node, leaf, _&_, rowsOf, Root, Text, BlockComment}
+use Rattle.rules.specs.Flat.{leafRow, startRow, finishRow, _at_}
+use Rattle.rules.specs.Notation.{bytes, Shown, nothing, node, leaf, _&_, rowsAt, Root, Text, BlockComment}
 use Rattle.rules.specs.Questions
 use Rattle.rules.specs.SyntaxKind.{ItemFormula, ItemText, ScopeRoot, TokenWord, TokenDollar, TokenBeginMath, TokenEndMath}
 
@@ -38,13 +38,22 @@ formulaAt row tree text answer = record { text = bytes text; tree = tree; row = 
 abbrev pub leafAt : ℕ → List ℕ → String → Leaf → Case
 leafAt row tree text answer = record { text = bytes text; tree = tree; row = row; formula = noFormula; leaf = answer }
 
+-- rows, each with a fifth number that no question reads
+abbrev pub joined : List (List ℕ) → List ℕ
+joined [] = []
+joined (row ∷ rows) = row at 9 ++ joined rows
+
 -- a formula in row 1, in the root
 abbrev pub inRoot : Shown → List ℕ
-inRoot inside = rowsOf (Root (node ItemFormula inside))
+inRoot inside = joined (rowsAt 0 (Root (node ItemFormula inside)))
 
 -- rows of a formula that need not balance
-abbrev pub bare : List ℕ → List ℕ
-bare rows = startRow ItemFormula ++ rows
+abbrev pub bare : List (List ℕ) → List ℕ
+bare rows = joined (startRow ItemFormula ∷ rows)
+
+-- a row of a tag that there is not
+abbrev pub odd : List ℕ
+odd = 3 ∷ 0 ∷ 0 ∷ 0 ∷ []
 
 abbrev pub dollar : String → Shown
 dollar text = leaf TokenDollar text
@@ -78,22 +87,22 @@ cases =
     ∷ formulaAt 3 (inRoot (dollar "$")) "$" noFormula
     ∷ formulaAt 5 (inRoot (dollar "$")) "$" noFormula
     -- a finish of another kind matches
-    ∷ formulaAt 0 (bare (leafRow TokenDollar 0 1 ++ finishRow ScopeRoot)) "$" (false, true, true)
-    -- no finish matches; three numbers of one are no row
-    ∷ formulaAt 0 (bare (leafRow TokenDollar 0 1 ++ (startRow ItemText ++ finishRow ItemText))) "$" noFormula
-    ∷ formulaAt 0 (bare (leafRow TokenDollar 0 1 ++ (tagFinish ∷ ItemFormula ∷ 0 ∷ []))) "$" noFormula
+    ∷ formulaAt 0 (bare (leafRow TokenDollar 0 1 ∷ finishRow ScopeRoot ∷ [])) "$" (false, true, true)
+    -- no finish matches; four numbers of one are no row
+    ∷ formulaAt 0 (bare (leafRow TokenDollar 0 1 ∷ startRow ItemText ∷ finishRow ItemText ∷ [])) "$" noFormula
+    ∷ formulaAt 0 (bare (leafRow TokenDollar 0 1 ∷ []) ++ finishRow ItemFormula) "$" noFormula
     -- a tag over 2 before the finish, and one behind it
-    ∷ formulaAt 0 (bare (leafRow TokenDollar 0 1 ++ ((3 ∷ 0 ∷ 0 ∷ 0 ∷ []) ++ finishRow ItemFormula))) "$" noFormula
-    ∷ formulaAt 0 (bare (leafRow TokenDollar 0 1 ++ (finishRow ItemFormula ++ (3 ∷ 0 ∷ 0 ∷ 0 ∷ [])))) "$" (false, true, true)
+    ∷ formulaAt 0 (bare (leafRow TokenDollar 0 1 ∷ odd ∷ finishRow ItemFormula ∷ [])) "$" noFormula
+    ∷ formulaAt 0 (bare (leafRow TokenDollar 0 1 ∷ finishRow ItemFormula ∷ odd ∷ [])) "$" (false, true, true)
     -- the last token lies outside the text, and then the first
-    ∷ formulaAt 0 (bare (leafRow TokenDollar 0 1 ++ (leafRow TokenDollar 1 1 ++ finishRow ItemFormula))) "$" (false, true, false)
-    ∷ formulaAt 0 (bare (leafRow TokenDollar 1 1 ++ (leafRow TokenDollar 0 1 ++ finishRow ItemFormula))) "$" noFormula
+    ∷ formulaAt 0 (bare (leafRow TokenDollar 0 1 ∷ leafRow TokenDollar 1 1 ∷ finishRow ItemFormula ∷ [])) "$" (false, true, false)
+    ∷ formulaAt 0 (bare (leafRow TokenDollar 1 1 ∷ leafRow TokenDollar 0 1 ∷ finishRow ItemFormula ∷ [])) "$" noFormula
     -- a leaf that ends with the text, one that ends a byte later, and one of no bytes at the text's end
-    ∷ leafAt 0 (leafRow TokenWord 1 1) "ab" (true, 1, 1)
-    ∷ leafAt 0 (leafRow TokenWord 1 2) "ab" noLeaf
-    ∷ leafAt 0 (leafRow TokenWord 2 0) "ab" (true, 2, 0)
+    ∷ leafAt 0 (leafRow TokenWord 1 1 at 9) "ab" (true, 1, 1)
+    ∷ leafAt 0 (leafRow TokenWord 1 2 at 9) "ab" noLeaf
+    ∷ leafAt 0 (leafRow TokenWord 2 0 at 9) "ab" (true, 2, 0)
     -- start and length that pass 32 bits together
-    ∷ leafAt 0 (leafRow TokenWord 1 0xFFFF_FFFF) "ab" noLeaf
+    ∷ leafAt 0 (leafRow TokenWord 1 0xFFFF_FFFF at 9) "ab" noLeaf
     ∷ []
 
 -- what is asked of a row, and what is expected
@@ -110,5 +119,5 @@ abbrev pub wanted : Case → Formula × Leaf
 wanted c = (c .formula, c .leaf)
 
 pub examples : map asked cases ≡ map wanted cases
-unfolding rowsOf Questions.tagged Questions.rangeAt Questions.isLeaf Questions.leafRange Questions.leafText Questions.openAfter Questions.balance Questions.formula Questions.firstFrom Questions.lastBefore Questions.firstToken Questions.lastToken Questions.same Questions.isDelimiter Questions.oneOf Questions.between Questions.matched
+unfolding Questions.tagged Questions.rangeAt Questions.isLeaf Questions.leafRange Questions.leafText Questions.openAfter Questions.balance Questions.formula Questions.firstFrom Questions.lastBefore Questions.firstToken Questions.lastToken Questions.same Questions.isDelimiter Questions.oneOf Questions.between Questions.matched
 examples = refl

@@ -6,6 +6,7 @@ use mathlib.Core.List.{List, [], _∷_}
 use mathlib.Core.Option.{Option, none, some}
 use lib.Dec.{eqb, leb, ltb}
 use lib.ListN.{length}
+use Rattle.rules.specs.Builder as builder
 use Rattle.rules.specs.Flat.{tagStart, tagLeaf, tagFinish}
 use Rattle.rules.specs.Limits
 use Rattle.rules.specs.SyntaxKind.{TokenDollar, TokenBeginMath, TokenEndMath, ItemFormula}
@@ -13,7 +14,8 @@ use Rattle.rules.specs.Tables.{cell, part}
 use Rattle.rules.specs.Tree.{Tree, Forest, leaf, node, more}
 
 -- ---- rows
--- "Tree row: tag (0 start, 1 leaf, 2 finish), kind, start, length". What is left over behind the last whole row is no row
+-- "Tree row: tag (0 start, 1 leaf, 2 finish), kind, start, length", and a fifth number that no question reads. What is left over behind the last
+-- whole row is no row
 abbrev pub rowCount : List ℕ → ℕ
 rowCount tree = length tree / Limits.treeWidth
 
@@ -33,7 +35,7 @@ pub record Range : Type 0 where
   pub start : ℕ
   pub size : ℕ
 
--- the last two numbers of a row
+-- the third and the fourth number of a row
 unfoldable pub rangeAt : List ℕ → ℕ → Range
 rangeAt tree row = record { start = cell Limits.treeWidth tree row 2; size = cell Limits.treeWidth tree row 3 }
 
@@ -184,11 +186,14 @@ abbrev pub isValid : List ℕ → List ℕ → ℕ → Bool
 isValid text tree row = matched text (leafAt tree (firstToken tree row)) (leafAt tree (lastToken tree row))
 
 -- ---- of a node of a tree: its tokens as rowan has them
+abbrev pub ofLeaf : builder.Leaf → Option Leaf
+ofLeaf l = some (l .kind, record { start = l .start; size = l .size })
+
 unfoldable mutual
   -- `first_token`: the first child's, if there is a child
   pub firstLeaf : Tree → Option Leaf
-  firstLeaf (leaf kind from size) = some (kind, record { start = from; size = size })
-  firstLeaf (node kind children) = firstOf children
+  firstLeaf (leaf l) = ofLeaf l
+  firstLeaf (node kind from to children) = firstOf children
 
   pub firstOf : Forest → Option Leaf
   firstOf Forest.none = none
@@ -197,8 +202,8 @@ unfoldable mutual
 unfoldable mutual
   -- `last_token`: the last child's; `before` is that of the child before these
   pub lastLeaf : Tree → Option Leaf
-  lastLeaf (leaf kind from size) = some (kind, record { start = from; size = size })
-  lastLeaf (node kind children) = lastOf children none
+  lastLeaf (leaf l) = ofLeaf l
+  lastLeaf (node kind from to children) = lastOf children none
 
   pub lastOf : Forest → Option Leaf → Option Leaf
   lastOf Forest.none before = before

@@ -1,5 +1,6 @@
 -- The builder in the manner of rowan's GreenNodeBuilder: a stack of finished children and one of open parents; rows are laid out only at the end.
--- Of what 01 adds it has the limits: how many rows were asked for, how many nodes are open.
+-- Of what 01 adds it has the limits: how many rows were asked for, how many nodes are open. Of 02's #101 it has the places of its nodes and the
+-- tokens of its leaves.
 use Prim.Native.Nat.{ℕ, _+_, _/_}
 use mathlib.Core.Bool.{cond}
 use mathlib.Core.List.{List, [], _∷_, _++_}
@@ -11,10 +12,11 @@ use Rattle.rules.specs.Limits
 use Rattle.rules.specs.Outcome.{Out, went, refused, markBeforeNode, tooManyOpen, noRoom}
 use Rattle.rules.specs.Tree.{Tree, leaf, nodeOf}
 
--- an open parent: its kind, and how many finished children stood before its first
+-- an open parent: its kind, how many finished children stood before its first, and the place at which it was begun
 pub record Parent : Type 0 where
   pub kind : ℕ
   pub first : ℕ
+  pub from : ℕ
 
 pub record Green : Type 0 where
   -- innermost first
@@ -47,17 +49,18 @@ token room place l g =
     orNoRoom room place g
     (went (record {
       parents = g .parents;
-      children = g .children ++ (leaf (l .kind) (l .start) (l .size) ∷ []);
+      children = g .children ++ (leaf l ∷ []);
       rows = g .rows + 1;
       leaves = g .leaves + 1;
       dropped = g .dropped;
     }))
 
--- a parent is pushed, with a count of finished children as its first
-unfoldable pub pushed : ℕ → ℕ → Green → Green
-pushed kind first g =
+-- a parent is pushed, with a count of finished children as its first. What was begun at a mark is begun at the place of the wrap: a command's node
+-- always begins at its name
+unfoldable pub pushed : ℕ → ℕ → ℕ → Green → Green
+pushed place kind first g =
     record {
-      parents = record { kind = kind; first = first } ∷ g .parents;
+      parents = record { kind = kind; first = first; from = place } ∷ g .parents;
       children = g .children;
       rows = g .rows + 1;
       leaves = g .leaves;
@@ -66,24 +69,24 @@ pushed kind first g =
 
 -- `start_node`: what comes next is its first child
 unfoldable pub startNode : ℕ → ℕ → ℕ → Green → Out Green
-startNode room place kind g = orTooManyOpen place g (orNoRoom room place g (went (pushed kind (length (g .children)) g)))
+startNode room place kind g = orTooManyOpen place g (orNoRoom room place g (went (pushed place kind (length (g .children)) g)))
 
 -- `start_node_at`: "assert!(checkpoint <= self.children.len())", and where a parent is open "assert!(checkpoint >= first_child)"
 unfoldable pub startNodeAt : ℕ → ℕ → ℕ → ℕ → Green → Out Green
 startNodeAt room place kind mark g =
     cond (ltb (length (g .children)) mark) (refused markPastLast place)
     (cond (ltb mark (firstOf (g .parents))) (refused markBeforeNode place)
-    (orTooManyOpen place g (orNoRoom room place g (went (pushed kind mark g)))))
+    (orTooManyOpen place g (orNoRoom room place g (went (pushed place kind mark g)))))
 
 -- the innermost parent takes its children off the stack and goes onto it as one
-abbrev pub popped : List Parent → List Tree → List Parent × List Tree
-popped [] children = ([], children)
-popped (p ∷ ps) children = (ps, take (p .first) children ++ (nodeOf (p .kind) (drop (p .first) children) ∷ []))
+abbrev pub popped : ℕ → List Parent → List Tree → List Parent × List Tree
+popped place [] children = ([], children)
+popped place (p ∷ ps) children = (ps, take (p .first) children ++ (nodeOf (p .kind) (p .from) place (drop (p .first) children) ∷ []))
 
 -- `finish_node`
 unfoldable pub finishNode : ℕ → ℕ → Green → Out Green
 finishNode room place g =
-    let left = popped (g .parents) (g .children) in
+    let left = popped place (g .parents) (g .children) in
     orNoRoom room place g (went (record { parents = left .0; children = left .1; rows = g .rows + 1; leaves = g .leaves; dropped = g .dropped }))
 
 -- "Dropped row: token index, reason (1 trivia, 2 opener, 3 closer), leaves written before it."

@@ -49,17 +49,17 @@ frac = 1 ∷ (fracText ++ (fracTokens ++ (fracShapes ++ nothing)))
 frac-bytes : length frac ≡ 118
 frac-bytes = refl
 
--- the ten lines of 01, each with its line break
+-- the ten lines of 01, each with its line break, and with the fifth number that 02's #101 adds
 abbrev pub fracPrints : List ℕ
 fracPrints =
     bytes "ok 11 2\n"
-    ++ bytes "0 44\n"
-    ++ bytes "1 35\n"
-    ++ bytes "2 27 0 5\n"
-    ++ bytes "2 28\n"
-    ++ bytes "3 13 6 1\n"
-    ++ bytes "2 28\n"
-    ++ bytes "3 13 8 1\n"
+    ++ bytes "0 44 0\n"
+    ++ bytes "1 35 0\n"
+    ++ bytes "2 27 0 5 0\n"
+    ++ bytes "2 28 2\n"
+    ++ bytes "3 13 6 1 2\n"
+    ++ bytes "2 28 4\n"
+    ++ bytes "3 13 8 1 4\n"
     ++ bytes "d 1 1 1\n"
     ++ bytes "d 3 1 2\n"
 
@@ -71,7 +71,7 @@ refused1 = bytes "refused 1 0\n"
 
 -- the root alone
 abbrev pub root : List ℕ
-root = bytes "ok 2 0\n" ++ bytes "0 44\n"
+root = bytes "ok 2 0\n" ++ bytes "0 44 0\n"
 
 -- a text of so many letters, which two bytes count, and no tables
 abbrev pub long : ℕ → ℕ → ℕ → List ℕ
