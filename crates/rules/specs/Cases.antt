@@ -112,6 +112,7 @@ cases =
       expected =
           gives 23
           (Root (Attach (Arg (Text "a") & underscore & Cmd (name "\\f" & Arg (word "1") & Arg (word "2"))) & Attach (caret & word "c")))
+          []
           [];
     }
     -- `a_\z^c`, `\z` without shape: it has one, around the first Attach
@@ -143,6 +144,7 @@ cases =
       expected =
           gives 25
           (Root (Attach (Cmd (Arg (Arg (Curly (lbrace & Text "a" & rbrace)) & underscore) & name "\\o" & Arg (blank & Text "b")))))
+          []
           [];
     }
     -- `\d 1\\2`, `\d` greedy: one argument to the end
@@ -168,6 +170,7 @@ cases =
           (gone "\\begin{" & Begin (symbol "m") & gone "}"
           & Cmd (name "\\d" & Arg (blank & Text "1")) & newLine & Text "2"
           & gone "\\end{" & End (symbol "m"))))
+          []
           [];
     }
     -- `\iffalse a\if b\fi c\fi d`: dropped (0,2,0), (9,3,8)
@@ -183,6 +186,7 @@ cases =
           (Root
           (gone "\\iffalse" & BlockComment (blank & word "a" & name "\\if" & blank & word "b" & name "\\fi" & blank & word "c") & gone "\\fi"
           & blank & Text "d"))
+          []
           ((0, 2, 0) ∷ (9, 3, 8) ∷ []);
     }
     -- `\iffalse a`: accepted, one dropped
@@ -204,6 +208,7 @@ cases =
       expected =
           gives 23
           (Root (Cmd (name "\\s" & Arg (Bracket (lbracket & Text "3" & rbracket)) & Arg (Curly (lbrace & Text "a" & rbrace)))))
+          []
           [];
     }
     -- with fixed 1, `[` alone is the argument
@@ -217,6 +222,7 @@ cases =
       expected =
           gives 19
           (Root (Cmd (name "\\s" & Arg lbracket) & Text "3" & rbracket & Curly (lbrace & Text "a" & rbrace)))
+          []
           [];
     }
     -- 01's formulas end here. The rest are answers of the Rust, with places and room as oracle/ counts them, that tell slips which those leave untold

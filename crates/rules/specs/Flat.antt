@@ -32,17 +32,16 @@ abbrev pub finishRow : ℕ → List ℕ
 finishRow kind = tagFinish ∷ kind ∷ 0 ∷ 0 ∷ []
 
 -- "Each tree row gets a fifth number: a leaf's own token, and for other rows the first token not wholly read just before the row was made." (02, #101)
-abbrev pub _at_ : List ℕ → ℕ → List ℕ
-row at token = row ++ (token ∷ [])
+abbrev pub withToken : ℕ → List ℕ → List ℕ
+withToken token row = row ++ (token ∷ [])
 
-infix 70 _at_
 -- "Demands 2 and 3 read the first four numbers as before."
 abbrev pub four : List ℕ → List ℕ
 four row = take 4 row
 
 -- a leaf's row
 abbrev pub rowOf : Leaf → List ℕ
-rowOf l = leafRow (l .kind) (l .start) (l .size) at l .token
+rowOf l = withToken (l .token) (leafRow (l .kind) (l .start) (l .size))
 
 -- ---- the builder
 
@@ -105,7 +104,7 @@ started place kind b =
       children = b .children;
       first = b .children;
       node = b .rows;
-      tree = b .tree ++ startRow kind at place;
+      tree = b .tree ++ withToken place (startRow kind);
     }
 
 unfoldable pub start : ℕ → ℕ → ℕ → Rows → Out Rows
@@ -121,7 +120,7 @@ finished place kind f b =
       children = b .first + 1;
       first = f .first;
       node = f .node;
-      tree = b .tree ++ finishRow kind at place;
+      tree = b .tree ++ withToken place (finishRow kind);
     }
 
 unfoldable pub finish : ℕ → ℕ → ℕ → Frame → Rows → Out Rows
@@ -149,7 +148,7 @@ startedAt place kind m b =
       children = b .children;
       first = m .children;
       node = startAtRow m b;
-      tree = insert (startAtRow m b) (startRow kind at place) (b .tree);
+      tree = insert (startAtRow m b) (withToken place (startRow kind)) (b .tree);
     }
 
 -- "at one opening 6, then 7, then 8"

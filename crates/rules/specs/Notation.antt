@@ -5,7 +5,7 @@ use Prim.Native.Char.{code}
 use Prim.Native.String.{String, [] as no-more, _∷_ as _before_}
 use mathlib.Core.List.{List, [], _∷_, _++_}
 use lib.ListN.{length}
-use Rattle.rules.specs.Flat.{leafRow, startRow, finishRow, _at_, droppedRow}
+use Rattle.rules.specs.Flat.{leafRow, startRow, finishRow, withToken, droppedRow}
 use Rattle.rules.specs.Items.{classCommand, classEnvironment}
 use Rattle.rules.specs.Matcher.{formFixed, formRange, formGreedy, formGlob, formLeft1, formInfixGreedy}
 use Rattle.rules.specs.SyntaxKind
@@ -106,17 +106,17 @@ width (gone text) = length (bytes text)
 
 -- the base's rows, where their text begins at a place
 abbrev pub rowsAt : ℕ → Shown → List (List ℕ)
-rowsAt begins nothing = []
-rowsAt begins (leaf kind text) = leafRow kind begins (length (bytes text)) ∷ []
-rowsAt begins (node kind inside) = startRow kind ∷ (rowsAt begins inside ++ (finishRow kind ∷ []))
-rowsAt begins (s & t) = rowsAt begins s ++ rowsAt (begins + width s) t
-rowsAt begins (gone text) = []
+rowsAt at nothing = []
+rowsAt at (leaf kind text) = leafRow kind at (length (bytes text)) ∷ []
+rowsAt at (node kind inside) = startRow kind ∷ (rowsAt at inside ++ (finishRow kind ∷ []))
+rowsAt at (s & t) = rowsAt at s ++ rowsAt (at + width s) t
+rowsAt at (gone text) = []
 
 -- rows one behind the other, each with its fifth number
 abbrev pub numbered : List (List ℕ) → List ℕ → List ℕ
 numbered [] tokens = []
 numbered (row ∷ rows) [] = []
-numbered (row ∷ rows) (token ∷ tokens) = row at token ++ numbered rows tokens
+numbered (row ∷ rows) (n ∷ tokens) = withToken n row ++ numbered rows tokens
 
 -- the tree rows, with the fifth numbers in row order
 abbrev pub rowsOf : Shown → List ℕ → List ℕ

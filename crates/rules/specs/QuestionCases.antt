@@ -4,7 +4,7 @@ use Prim.Native.String.{String}
 use mathlib.Core.Path.{_≡_, refl}
 use mathlib.Core.Bool.{Bool, true, false}
 use mathlib.Core.List.{List, [], _∷_, _++_, map}
-use Rattle.rules.specs.Flat.{leafRow, startRow, finishRow, _at_}
+use Rattle.rules.specs.Flat.{leafRow, startRow, finishRow, withToken}
 use Rattle.rules.specs.Notation.{bytes, Shown, nothing, node, leaf, _&_, rowsAt, Root, Text, BlockComment}
 use Rattle.rules.specs.Questions
 use Rattle.rules.specs.SyntaxKind.{ItemFormula, ItemText, ScopeRoot, TokenWord, TokenDollar, TokenBeginMath, TokenEndMath}
@@ -41,7 +41,7 @@ leafAt row tree text answer = record { text = bytes text; tree = tree; row = row
 -- rows, each with a fifth number that no question reads
 abbrev pub joined : List (List ℕ) → List ℕ
 joined [] = []
-joined (row ∷ rows) = row at 9 ++ joined rows
+joined (row ∷ rows) = withToken 9 row ++ joined rows
 
 -- a formula in row 1, in the root
 abbrev pub inRoot : Shown → List ℕ
@@ -98,11 +98,11 @@ cases =
     ∷ formulaAt 0 (bare (leafRow TokenDollar 0 1 ∷ leafRow TokenDollar 1 1 ∷ finishRow ItemFormula ∷ [])) "$" (false, true, false)
     ∷ formulaAt 0 (bare (leafRow TokenDollar 1 1 ∷ leafRow TokenDollar 0 1 ∷ finishRow ItemFormula ∷ [])) "$" noFormula
     -- a leaf that ends with the text, one that ends a byte later, and one of no bytes at the text's end
-    ∷ leafAt 0 (leafRow TokenWord 1 1 at 9) "ab" (true, 1, 1)
-    ∷ leafAt 0 (leafRow TokenWord 1 2 at 9) "ab" noLeaf
-    ∷ leafAt 0 (leafRow TokenWord 2 0 at 9) "ab" (true, 2, 0)
+    ∷ leafAt 0 (withToken 9 (leafRow TokenWord 1 1)) "ab" (true, 1, 1)
+    ∷ leafAt 0 (withToken 9 (leafRow TokenWord 1 2)) "ab" noLeaf
+    ∷ leafAt 0 (withToken 9 (leafRow TokenWord 2 0)) "ab" (true, 2, 0)
     -- start and length that pass 32 bits together
-    ∷ leafAt 0 (leafRow TokenWord 1 0xFFFF_FFFF at 9) "ab" noLeaf
+    ∷ leafAt 0 (withToken 9 (leafRow TokenWord 1 0xFFFF_FFFF)) "ab" noLeaf
     ∷ []
 
 -- what is asked of a row, and what is expected

@@ -2,7 +2,7 @@
 use Prim.Native.Nat.{ℕ, _+_}
 use mathlib.Core.List.{List, [], _∷_, _++_}
 use Rattle.rules.specs.Builder.{Leaf}
-use Rattle.rules.specs.Flat.{leafRow, startRow, finishRow, _at_, rowOf}
+use Rattle.rules.specs.Flat.{leafRow, startRow, finishRow, withToken, rowOf}
 
 mutual
   -- a leaf as it was handed over, with its token; or a node with its kind, `from`, `to` and its children. `from` is the place at which it was begun,
@@ -21,7 +21,7 @@ unfoldable mutual
   -- a node's start, its children's rows, its finish; each with its fifth number
   pub layout : Tree → List ℕ
   layout (leaf l) = rowOf l
-  layout (node kind from to children) = startRow kind at from ++ (layouts children ++ finishRow kind at to)
+  layout (node kind from to children) = withToken from (startRow kind) ++ (layouts children ++ withToken to (finishRow kind))
 
   pub layouts : Forest → List ℕ
   layouts none = []
