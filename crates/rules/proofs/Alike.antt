@@ -12,7 +12,7 @@ use lib.Seq.{take-append-le, take-take, take-length, length-take-le, take-append
 use lib.Dec.{ltb, leb, eqb}
 use borrow.Author.Tests.{ltb-false, le-ltb, eqb-true, eqb-false}
 use Rattle.rules.specs.Flat
-use Rattle.rules.specs.Flat.{Rows, Mark, Frame, Built, startRow, insert, onTree, frameOf, flat}
+use Rattle.rules.specs.Flat.{Rows, Mark, Frame, Built, withToken, startRow, insert, onTree, frameOf, flat}
 use Rattle.rules.specs.Limits.{treeWidth, nodes}
 use Rattle.rules.specs.Outcome.{Out, went, refused, markBeforeNode, tooManyOpen, noRoom}
 use Rattle.rules.specs.Position.{Pos, Source}
@@ -39,8 +39,8 @@ NoSkip number = ⊥
 abbrev Live : Type 0
 Live = List (Mark × ℕ)
 
-abbrev parent : ℕ → ℕ → Parent
-parent kind first = record { kind = kind; first = first }
+abbrev parent : ℕ → ℕ → ℕ → Parent
+parent kind first from = record { kind = kind; first = first; from = from }
 
 -- ---- marks
 
@@ -106,11 +106,19 @@ record Marked (m : Mark) (n : ℕ) (p : Parent) (ps : List Parent) (cs : List Tr
   high : n ≤ length cs
   row : p .first < n → m .row * treeWidth ≡ length (render (p ∷ ps) (take n cs))
 
+-- a tree with the root's kind
+pub record Rooted (t : Tree) : Type 0 where
+  pub from : ℕ
+  pub to : ℕ
+  pub inside : Forest
+  pub is : t ≡ Tree.node ScopeRoot from to inside
+
 -- at the end: one tree, whose layout the rows are
 pub record Whole (a : Built) (b : Green) : Type 0 where
-  pub inside : Forest
-  pub rows : a .tree .tree ≡ layout (Tree.node ScopeRoot inside)
-  pub tree : b .children ≡ Tree.node ScopeRoot inside ∷ []
+  pub tree : Tree
+  pub rows : a .tree .tree ≡ layout tree
+  pub is : b .children ≡ tree ∷ []
+  pub root : Rooted tree
   pub closed : b .parents ≡ []
   pub count : a .tree .rows ≡ b .rows
   pub size : a .tree .rows * treeWidth ≡ length (a .tree .tree)
@@ -154,11 +162,11 @@ module _ (room : ℕ) where
   -- root
   data Levels : Over → List Parent → List Tree → Frame → Type 0 where
     outside : {cs : List Tree} {f : Frame} → cs ≡ [] → Levels [] [] cs f
-    inside : {k first : ℕ} {live : Live} {left : Frame} {w : Over} {ps : List Parent} {cs : List Tree} {f : Frame}
+    inside : {k first from : ℕ} {live : Live} {left : Frame} {w : Over} {ps : List Parent} {cs : List Tree} {f : Frame}
         → Begun f first ps cs
-        → Falling (parent k first ∷ ps) cs (length cs) live
+        → Falling (parent k first from ∷ ps) cs (length cs) live
         → Levels w ps (take first cs) left
-        → Levels (node k left tt ◂ live ∷ w) (parent k first ∷ ps) cs f
+        → Levels (node k left tt ◂ live ∷ w) (parent k first from ∷ ps) cs f
 
   data Alike : Over → Built → Green → Type 0 where
     alike : {w : Over} {t : Rows} {ps : List Parent} {cs : List Tree} {dropped : List ℕ}
@@ -213,7 +221,7 @@ module _ (room : ℕ) where
   leafs : LeafKeeps (flat room) (rowan room) NoSkip Known Alike
   unfolding Flat.leaf Flat.leafed Rowan.token layout
   leafs place l top w _ _ (alike {t} {ps} {cs} tied levels) =
-      let x = leaf (l .kind) (l .start) (l .size) in
+      let x = leaf l in
       onTree~ _ (room~ place (t .rows) (went~ (alike
       (record {
         depth = tied .depth;
@@ -234,7 +242,7 @@ module _ (room : ℕ) where
   starts : StartKeeps (flat room) (rowan room) NoSkip Known Alike
   unfolding Flat.start Flat.started Rowan.startNode Rowan.pushed
   starts place kind w _ _ (alike {t} {ps} {cs} tied levels) =
-      let p = parent kind (length cs) in
+      let p = parent kind (length cs) place in
       onTree~ _ (deep~ place t ps (tied .depth) (room~ place (t .rows) (went~ (alike
       (record {
         depth = ap (λ (n : ℕ). n + 1) (tied .depth) ∙ add-one (length ps);
@@ -249,26 +257,27 @@ module _ (room : ℕ) where
 
   finishes : FinishKeeps (flat room) (rowan room) NoSkip Known Alike
   unfolding Flat.finish Flat.finished Rowan.finishNode
-  finishes place n live top w _ _ (alike {t} {cs} tied (inside {k} {first} {ps} begun falling levels)) =
-      let p = parent k first in
+  finishes place n live top w _ _ (alike {t} {cs} tied (inside {k} {first} {from} {ps} begun falling levels)) =
+      let p = parent k first from in
       let long : length (take first cs) ≡ first = length-take-le first cs (begun .high) in
       let depth = tied .depth in
       onTree~ _ (room~ place (t .rows) (went~ (alike
       (record {
         depth = omega arith;
         children = simp length-append (omega arith);
-        tree = rw (tied .tree) (sym (render-close p ps cs (low levels)));
+        tree = rw (tied .tree) (sym (render-close place p ps cs (low levels)));
         size = simp length-append (omega arith);
       })
-      (levels-more (nodeOf k (drop first cs)) levels))))
+      (levels-more (nodeOf k from place (drop first cs)) levels))))
 
   ends : EndGives (flat room) (rowan room) NoSkip Known Alike Whole
   unfolding Flat.finish Flat.finished Rowan.finishNode layout
-  ends place f g live _ _ (alike {t} {cs} tied (inside {first} begun falling (outside none))) =
+  ends place f g live _ _ (alike {t} {cs} tied (inside {first} {from} begun falling (outside none))) =
       onTree~ _ (room~ place (t .rows) (went~ (record {
-        inside = forest (drop first cs);
+        tree = nodeOf ScopeRoot from place (drop first cs);
         rows = rw (tied .tree, none);
-        tree = rw none;
+        is = rw none;
+        root = record { from = from; to = place; inside = forest (drop first cs); is = refl };
         closed = refl;
         count = refl;
         size = simp length-append (let size = tied .size in omega arith);
@@ -288,14 +297,14 @@ module _ (room : ℕ) where
 
   -- ---- a node begins at a mark
 
-  module _ {k first n : ℕ} {m : Mark} {older : Live} {left : Frame} {w : Over} {ps : List Parent} {cs : List Tree} where
+  module _ {k first from n : ℕ} {m : Mark} {older : Live} {left : Frame} {w : Over} {ps : List Parent} {cs : List Tree} where
     -- the node around it keeps the children before the mark
     around : {f : Frame}
         → Begun f first ps cs
-        → Marked m n (parent k first) ps cs
-        → Falling (parent k first ∷ ps) cs n ((m, n) ∷ older)
+        → Marked m n (parent k first from) ps cs
+        → Falling (parent k first from ∷ ps) cs n ((m, n) ∷ older)
         → Levels w ps (take first cs) left
-        → Levels (node k left tt ◂ ((m, n) ∷ older) ∷ w) (parent k first ∷ ps) (take n cs) f
+        → Levels (node k left tt ◂ ((m, n) ∷ older) ∷ w) (parent k first from ∷ ps) (take n cs) f
     around begun marked falling levels =
         let long : length (take n cs) ≡ n = length-take-le n cs (marked .high) in
         let same : take first cs ≡ take first (take n cs) = sym (take-take first n cs (marked .low)) in
@@ -306,27 +315,33 @@ module _ (room : ℕ) where
         (falling-as (take n cs) (length (take n cs)) (λ i below. take-take i n cs below) wide falling)
         (rw same at levels)
 
-    opened : (kind : ℕ) {t : Rows} {dropped : List ℕ}
-        → Tied t (parent k first ∷ ps) cs
+    opened : (place kind : ℕ) {t : Rows} {dropped : List ℕ}
+        → Tied t (parent k first from ∷ ps) cs
         → Begun (frameOf t) first ps cs
-        → Marked m n (parent k first) ps cs
-        → Falling (parent k first ∷ ps) cs n older
+        → Marked m n (parent k first from) ps cs
+        → Falling (parent k first from ∷ ps) cs n older
         → Levels w ps (take first cs) left
         → Alike (node kind (frameOf t) tt ◂ ((m, n) ∷ older) ∷ node k left tt ◂ ((m, n) ∷ older) ∷ w)
-        (record { tree = Flat.startedAt kind m t; dropped = dropped })
-        (record { parents = parent kind n ∷ parent k first ∷ ps; children = cs; rows = t .rows + 1; leaves = t .leaves; dropped = dropped })
+        (record { tree = Flat.startedAt place kind m t; dropped = dropped })
+        (record {
+          parents = parent kind n place ∷ parent k first from ∷ ps;
+          children = cs;
+          rows = t .rows + 1;
+          leaves = t .leaves;
+          dropped = dropped;
+        })
     unfolding Flat.startedAt Flat.startAtRow
-    opened kind {t} tied begun marked falling levels =
-        let p = parent k first in
+    opened place kind {t} tied begun marked falling levels =
+        let p = parent k first from in
+        let row = withToken place (startRow kind) in
         let x = render (p ∷ ps) (take n cs) in
         let y = laid (drop n cs) in
         let at = place-is t p ps cs (eqb (m .children) (t .first)) refl begun marked in
         let split : t .tree ≡ x ++ y = tied .tree ∙ render-split (p ∷ ps) cs n (marked .low) (marked .high) in
-        let put =
-        ap (λ (l : List ℕ). insert (Flat.startAtRow m t) (startRow kind) l) split ∙ insert-is x y (startRow kind) (Flat.startAtRow m t) at in
-        let longer = insert-size x y (startRow kind) (t .rows) refl (tied .size ∙ ap (λ (l : List ℕ). length l) split) in
+        let put = ap (λ (l : List ℕ). insert (Flat.startAtRow m t) row l) split ∙ insert-is x y row (Flat.startAtRow m t) at in
+        let longer = insert-size x y row (t .rows) refl (tied .size ∙ ap (λ (l : List ℕ). length l) split) in
         let own : Falling (p ∷ ps) cs n ((m, n) ∷ older) = falls (marked .count) (le-refl n) (marked .row) falling in
-        alike {t = Flat.startedAt kind m t}
+        alike {t = Flat.startedAt place kind m t}
         (record {
           depth = ap (λ (n : ℕ). n + 1) (tied .depth) ∙ add-one (suc (length ps));
           children = tied .children;
@@ -335,17 +350,17 @@ module _ (room : ℕ) where
         })
         (inside
         (record { is = marked .count; high = marked .high; row = at })
-        (falling-as cs (length cs) (λ i below. refl) (marked .high) (falling-below (parent kind n) (p ∷ ps) (le-refl n) own))
+        (falling-as cs (length cs) (λ i below. refl) (marked .high) (falling-below (parent kind n place) (p ∷ ps) (le-refl n) own))
         (around begun marked own levels))
 
   startAts : StartAtKeeps (flat room) (rowan room) NoSkip Known Alike
   unfolding Flat.startAt Rowan.startNodeAt Rowan.pushed Flat.startedAt
-  startAts place kind _ _ older w _ _ (alike {t} {cs} tied (inside {k} {first} {ps} begun (falls {m} {n} count below row falling) levels)) =
+  startAts place kind _ _ older w _ _ (alike {t} {cs} tied (inside {k} {first} {from} {ps} begun (falls {m} {n} count below row falling) levels)) =
       rw (le-ltb (length cs) n below)
       (onTree~ _ (gate~ markBeforeNode place (ltb (m .children) (t .first)) (ltb n first) (omega arith) (ap₂ ltb count (begun .is)) (λ e.
       let inside = ltb-false (m .children) (t .first) e in
-      deep~ place t (parent k first ∷ ps) (tied .depth) (room~ place (t .rows) (went~
-      (opened kind tied begun (record { count = count; low = omega arith; high = below; row = row }) falling levels))))))
+      deep~ place t (parent k first from ∷ ps) (tied .depth) (room~ place (t .rows) (went~
+      (opened place kind tied begun (record { count = count; low = omega arith; high = below; row = row }) falling levels))))))
 
   pub alike-sim : Sim (flat room) (rowan room) NoSkip Known
   alike-sim =
@@ -409,8 +424,8 @@ module _ (room : ℕ) (source : Source) where
   -- the rows of an accepted run are those of one tree with the root's kind: they balance, and each finish names its start's kind
   pub rows-of-a-tree : (p : Pos Built Mark)
       → parse (flat room) source Flat.empty ≡ went p
-      → (inside : Forest) × (p .built .tree .tree ≡ layout (Tree.node ScopeRoot inside))
-  rows-of-a-tree p e = let whole = accepted (same-run room source) e .3 in (whole .inside, whole .rows)
+      → (tree : Tree) × Rooted tree × (p .built .tree .tree ≡ layout tree)
+  rows-of-a-tree p e = let whole = accepted (same-run room source) e .3 in (whole .tree, whole .root, whole .rows)
 
   -- rowan's other assertion, a mark past the last child, is never met
   pub never-past-last : (place : ℕ) → parse (rowan room) source Rowan.nothing ≡ refused Rowan.markPastLast place → ⊥

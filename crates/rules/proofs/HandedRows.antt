@@ -12,11 +12,11 @@ use borrow.Author.Tests.{leb-true, leb-false}
 use Rattle.rules.specs.Builder.{Leaf}
 use Rattle.rules.specs.Cursor.{Cursor, atStart, eaten}
 use Rattle.rules.specs.Flat
-use Rattle.rules.specs.Flat.{Rows, Mark, Frame, Built, leafRow, startRow, finishRow, droppedRow, insert, onTree, flat, empty}
+use Rattle.rules.specs.Flat.{Rows, Mark, Frame, Built, withToken, startRow, finishRow, rowOf, droppedRow, insert, onTree, flat, empty}
 use Rattle.rules.specs.Limits.{treeWidth, droppedWidth, nodes}
 use Rattle.rules.specs.Outcome.{Out, went, markBeforeNode, tooManyOpen, noRoom}
 use Rattle.rules.specs.Position.{Source}
-use Rattle.rules.specs.PutBack.{rowsOf, leaves}
+use Rattle.rules.specs.PutBack.{rowsOf, Piece, leaves}
 use Rattle.rules.specs.Reading.{parse}
 use Rattle.rules.specs.Tables.{tokenCount}
 use Rattle.rules.proofs.Characters.{either}
@@ -56,19 +56,19 @@ leaves-then : (n m : ℕ) (xs ys : List ℕ) → length xs ≡ n * treeWidth →
 leaves-then n m xs ys long = ap leaves (rows-append treeWidth n m xs ys long) ∙ leaves-append (rowsOf treeWidth n xs) (rowsOf treeWidth m ys)
 
 -- a start row between others is no leaf
-started-between : (kind a b : ℕ) (xs ys : List ℕ)
+started-between : (place kind a b : ℕ) (xs ys : List ℕ)
     → length xs ≡ a * treeWidth
     → length ys ≡ b * treeWidth
-    → leavesIn (a + b + 1) (xs ++ (startRow kind ++ ys)) ≡ leavesIn (a + b) (xs ++ ys)
-started-between kind a b xs ys long long′ =
+    → leavesIn (a + b + 1) (xs ++ (withToken place (startRow kind) ++ ys)) ≡ leavesIn (a + b) (xs ++ ys)
+started-between place kind a b xs ys long long′ =
     let up : a + b + 1 ≡ a + suc b = omega arith in
-    rw (up, leaves-then a (suc b) xs (startRow kind ++ ys) long, leaves-then a b xs ys long)
+    rw (up, leaves-then a (suc b) xs (withToken place (startRow kind) ++ ys) long, leaves-then a b xs ys long)
 
 -- so a wrap's start row changes no leaf, wherever it is put in
-inserted : (kind row rows : ℕ) (tree : List ℕ)
+inserted : (place kind row rows : ℕ) (tree : List ℕ)
     → length tree ≡ rows * treeWidth
-    → leavesIn (rows + 1) (insert row (startRow kind) tree) ≡ leavesIn rows tree
-inserted kind row rows tree long =
+    → leavesIn (rows + 1) (insert row (withToken place (startRow kind)) tree) ≡ leavesIn rows tree
+inserted place kind row rows tree long =
     let x = take (row * treeWidth) tree in
     let y = drop (row * treeWidth) tree in
     either (leb row rows)
@@ -76,13 +76,13 @@ inserted kind row rows tree long =
     let low = leb-true row rows e in
     let left = length-drop (row * treeWidth) tree in
     let parts : row + (rows - row) ≡ rows = omega arith in
-    let between = started-between kind row (rows - row) x y (length-take-le (row * treeWidth) tree (omega arith)) (omega arith) in
+    let between = started-between place kind row (rows - row) x y (length-take-le (row * treeWidth) tree (omega arith)) (omega arith) in
     rw (parts, take-append-drop (row * treeWidth) tree) at between)
     (λ e.
     let high = leb-false row rows e in
     let all : x ≡ tree = take-all (row * treeWidth) tree (omega arith) in
     let none : y ≡ [] = drop-of-length-le tree {i = row * treeWidth} (omega arith) in
-    rw (all, none) (rw (add-zero rows, append-nil tree) at (started-between kind rows 0 tree [] long refl)))
+    rw (all, none) (rw (add-zero rows, append-nil tree) at (started-between place kind rows 0 tree [] long refl)))
 
 -- ---- the operations
 
@@ -141,6 +141,10 @@ insert-size row numbers tree =
     let rest = length-append numbers back in
     omega arith
 
+-- a leaf as its row tells it
+abbrev pieceFrom : Leaf → Piece
+pieceFrom l = record { start = l .start; size = l .size; token = l .token }
+
 -- ---- tests that let an operation through
 
 onTree-if : (b : Built) {Q : Built → Type 0} {o : Out Rows} → Goes (λ t. Q (record { tree = t; dropped = b .dropped })) o → Goes Q (onTree b o)
@@ -171,28 +175,30 @@ module _ (room : ℕ) (source : Source) where
   starts : (place kind : ℕ) (c : Cursor) → Takes (HasRead source c) (HasRead source c) (flat room .start place kind)
   unfolding Flat.start Flat.started
   starts place kind c b h =
-      let t = Flat.started kind (b .tree) in
-      let more : Behind (b .tree) t (startRow kind) [] = record { rows = refl; tree = refl; leaves = sym (add-zero _); long = refl; is = refl } in
+      let t = Flat.started place kind (b .tree) in
+      let row = withToken place (startRow kind) in
+      let more : Behind (b .tree) t row [] = record { rows = refl; tree = refl; leaves = sym (add-zero _); long = refl; is = refl } in
       onTree-if b (shallow place (b .tree) (roomy place (b .tree) t (no-leaf b t h more)))
 
   finishes : (place kind : ℕ) (f : Frame) (c : Cursor) → Takes (HasRead source c) (HasRead source c) (flat room .finish place kind f)
   unfolding Flat.finish Flat.finished
   finishes place kind f c b h =
-      let t = Flat.finished kind f (b .tree) in
-      let more : Behind (b .tree) t (finishRow kind) [] = record { rows = refl; tree = refl; leaves = sym (add-zero _); long = refl; is = refl } in
+      let t = Flat.finished place kind f (b .tree) in
+      let row = withToken place (finishRow kind) in
+      let more : Behind (b .tree) t row [] = record { rows = refl; tree = refl; leaves = sym (add-zero _); long = refl; is = refl } in
       onTree-if b (roomy place (b .tree) t (no-leaf b t h more))
 
   startAts : (place kind : ℕ) (m : Mark) (c : Cursor) → Takes (HasRead source c) (HasRead source c) (flat room .startAt place kind m)
   unfolding Flat.startAt Flat.startedAt
   startAts place kind m c b h =
       let row = Flat.startAtRow m (b .tree) in
-      let longer = insert-size row (startRow kind) (b .tree .tree) in
+      let longer = insert-size row (withToken place (startRow kind)) (b .tree .tree) in
       let size = h .tied .size in
       onTree-if b
       (cond-goes (ltb (m .children) (b .tree .first)) (λ _. stopped markBeforeNode place)
-      (λ _. shallow place (b .tree) (roomy place (b .tree) (Flat.startedAt kind m (b .tree)) (same-read h (record {
+      (λ _. shallow place (b .tree) (roomy place (b .tree) (Flat.startedAt place kind m (b .tree)) (same-read h (record {
         size = omega arith;
-        leaves = inserted kind row (b .tree .rows) (b .tree .tree) size ∙ h .tied .leaves;
+        leaves = inserted place kind row (b .tree .rows) (b .tree .tree) size ∙ h .tied .leaves;
         count = h .tied .count;
         long = h .tied .long;
         dropped = h .tied .dropped;
@@ -200,15 +206,14 @@ module _ (room : ℕ) (source : Source) where
 
   -- a leaf is the next of the leaves
   leafed : (place : ℕ) (l : Leaf) {b : Built} {c c′ : Cursor} (h : HasRead source c b)
-      → Reached source (h .ls ++ ((l .start, l .size) ∷ [])) (h .ds) c′
+      → Reached source (h .ls ++ (pieceFrom l ∷ [])) (h .ds) c′
       → Goes (HasRead source c′) (flat room .leaf place l b)
   unfolding Flat.leaf Flat.leafed
   leafed place l {b} h reached =
-      let t = Flat.leafed (l .kind) (l .start) (l .size) (b .tree) in
-      let row = leafRow (l .kind) (l .start) (l .size) in
-      let more : Behind (b .tree) t row ((l .start, l .size) ∷ []) = record { rows = refl; tree = refl; leaves = refl; long = refl; is = refl } in
+      let t = Flat.leafed l (b .tree) in
+      let more : Behind (b .tree) t (rowOf l) (pieceFrom l ∷ []) = record { rows = refl; tree = refl; leaves = refl; long = refl; is = refl } in
       onTree-if b (roomy place (b .tree) t (record {
-        ls = h .ls ++ ((l .start, l .size) ∷ []);
+        ls = h .ls ++ (pieceFrom l ∷ []);
         ds = h .ds;
         tied = behind b t (h .tied) more refl;
         reached = reached;

@@ -8,6 +8,7 @@ pub mod Choices
 pub mod Control
 pub mod Depth
 pub mod Exactly
+pub mod Fifth
 pub mod Flat
 pub mod Goes
 pub mod Handed

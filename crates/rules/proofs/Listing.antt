@@ -2,7 +2,7 @@
 -- its table. Assumes nothing.
 use Prim.Native.Nat.{ℕ, zero, suc, _+_, _*_, _-_, _/_, _%_, _^_, _≤_, _<_}
 use mathlib.Core.List.{List, [], _∷_, _++_}
-use mathlib.Core.Path.{_≡_}
+use mathlib.Core.Path.{_≡_, refl}
 use native.Mathlib.Nat.{add-zero}
 use native.Mathlib.Omega.{arith}
 use borrow.Author.Tests.{ltb-true, ltb-false, lt-ltb, le-ltb, eq-eqb, ne-eqb}
@@ -61,26 +61,27 @@ unfolding droppedLines
 dropped-end dropped count row end = rw (no-more count row end)
 
 -- ---- numbers of a row, as a part of the table
-one-number : (l : List ℕ) (a : ℕ) → a < length l → part l a 1 ≡ getD l a 0 ∷ []
-one-number l a here = rw (drop-cons l a 0 here)
+next-number : (l : List ℕ) (a b n : ℕ) → suc a ≡ b → a < length l → part l a (suc n) ≡ getD l a 0 ∷ part l b n
+next-number l a b n e here = rw (← e, drop-cons l a 0 here)
 
 three-numbers : (l : List ℕ) (a b c : ℕ) → suc a ≡ b → suc b ≡ c → c < length l → part l a 3 ≡ getD l a 0 ∷ getD l b 0 ∷ getD l c 0 ∷ []
 three-numbers l a b c e f here =
-    let first : a < length l = omega arith in
-    let second : suc a < length l = omega arith in
-    let third : suc (suc a) < length l = omega arith in
-    rw (← f, ← e, drop-cons l a 0 first, drop-cons l (suc a) 0 second, drop-cons l (suc (suc a)) 0 third)
+    rw (next-number l a b 2 e (omega arith), next-number l b c 1 f (omega arith), next-number l c (suc c) 0 refl here)
 
 module _ (tree : List ℕ) (row depth : ℕ) (there : row < rowCount tree) where
-  pub start-line : tagAt tree row ≡ tagStart → treeLine tree row depth ≡ line (decimal depth) (part tree (row * Limits.treeWidth + 1) 1)
-  unfolding treeLine
-  start-line is = rw (eq-eqb _ _ is, one-number tree (row * Limits.treeWidth + 1) (omega arith))
+  -- where the row begins
+  abbrev from : ℕ
+  from = row * Limits.treeWidth
 
-  pub leaf-line : tagAt tree row ≡ tagLeaf → treeLine tree row depth ≡ line (decimal depth) (part tree (row * Limits.treeWidth + 1) 3)
+  pub start-line : tagAt tree row ≡ tagStart → treeLine tree row depth ≡ line (decimal depth) (getD tree (from + 1) 0 ∷ getD tree (from + 4) 0 ∷ [])
+  unfolding treeLine
+  start-line is = rw (eq-eqb _ _ is)
+
+  pub leaf-line : tagAt tree row ≡ tagLeaf → treeLine tree row depth ≡ line (decimal depth) (part tree (from + 1) 4)
   unfolding treeLine
   leaf-line is =
-      let a = row * Limits.treeWidth in
-      rw (is, three-numbers tree (a + 1) (a + 2) (a + 3) (omega arith) (omega arith) (omega arith))
+      let others = three-numbers tree (from + 2) (from + 3) (from + 4) (omega arith) (omega arith) (omega arith) in
+      rw (is, next-number tree (from + 1) (from + 2) 3 (omega arith) (omega arith), others)
 
   pub no-line : (tagAt tree row ≡ tagStart → ⊥) → (tagAt tree row ≡ tagLeaf → ⊥) → treeLine tree row depth ≡ []
   unfolding treeLine
@@ -140,24 +141,34 @@ three-long word a b c ha hb hc =
     omega
     (arith, line-long word (a ∷ b ∷ c ∷ []), more-long a (b ∷ c ∷ []), more-long b (c ∷ []), one-long c, word-few a ha, word-few b hb, word-few c hc)
 
+four-long : (word : List ℕ) (a b c d : ℕ) → a < 2 ^ 32 → b < 2 ^ 32 → c < 2 ^ 32 → d < 2 ^ 32
+    → length (line word (a ∷ b ∷ c ∷ d ∷ [])) ≤ length word + 45
+four-long word a b c d ha hb hc hd =
+    let others = three-long word b c d hb hc hd in
+    omega (arith, line-long word (a ∷ b ∷ c ∷ d ∷ []), line-long word (b ∷ c ∷ d ∷ []), more-long a (b ∷ c ∷ d ∷ []), word-few a ha)
+
 head-long : (word : List ℕ) (a b : ℕ) → a < 2 ^ 64 → b < 2 ^ 64 → length (line word (a ∷ b ∷ [])) ≤ length word + 43
 head-long word a b ha hb = omega (arith, line-long word (a ∷ b ∷ []), more-long a (b ∷ []), one-long b, count-few a ha, count-few b hb)
 
-tree-line-few : (tree : List ℕ) (row depth : ℕ) → Words tree → depth < 2 ^ 32 → length (treeLine tree row depth) ≤ 44
+tree-line-few : (tree : List ℕ) (row depth : ℕ) → Words tree → depth < 2 ^ 32 → length (treeLine tree row depth) ≤ 55
 unfolding treeLine
 tree-line-few tree row depth words low =
     let deep = word-few depth low in
     let kind = kindAt tree row in
     let from = cell Limits.treeWidth tree row 2 in
     let size = cell Limits.treeWidth tree row 3 in
+    let token = cell Limits.treeWidth tree row 4 in
     either (eqb (tagAt tree row) tagStart)
-    (λ start. rw start (omega (arith, line-long (decimal depth) (kind ∷ []), one-long kind, word-few kind (words _))))
+    (λ start.
+    rw start
+    (omega
+    (arith, line-long (decimal depth) (kind ∷ token ∷ []), more-long kind (token ∷ []), one-long token, word-few kind (words _), word-few token (words _))))
     (λ other.
     either (eqb (tagAt tree row) tagLeaf)
-    (λ leaf. rw (other, leaf) (omega (arith, three-long (decimal depth) kind from size (words _) (words _) (words _))))
+    (λ leaf. rw (other, leaf) (omega (arith, four-long (decimal depth) kind from size token (words _) (words _) (words _) (words _))))
     (λ none. rw (other, none) (omega arith)))
 
-tree-lines-few : (tree : List ℕ) (rows row depth : ℕ) → Words tree → depth + rows < 2 ^ 32 → length (treeLines tree rows row depth) ≤ rows * 44
+tree-lines-few : (tree : List ℕ) (rows row depth : ℕ) → Words tree → depth + rows < 2 ^ 32 → length (treeLines tree rows row depth) ≤ rows * 55
 unfolding treeLines
 tree-lines-few tree zero row depth words low = omega arith
 tree-lines-few tree (suc rows) row depth words low =

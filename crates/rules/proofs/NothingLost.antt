@@ -1,7 +1,7 @@
 -- Demand 3's first half, of every accepted run, on the buffers after it and the answer's counts: each token is a leaf, the parts of a split Word, or
 -- one dropped row; putting back gives the token texts; so inputs whose texts differ never share what is put together. What the checks and the reading
 -- tell. Assumes nothing.
-use Prim.Native.Nat.{ℕ, _/_}
+use Prim.Native.Nat.{ℕ, _/_, _<_}
 use mathlib.Core.Path.{_≡_, refl, sym, ap, _∙_}
 use mathlib.Core.List.{List}
 use mathlib.Core.Option.{Option, none, some}
@@ -9,18 +9,20 @@ use native.Mathlib.Omega.{arith}
 use native.Mathlib.Nat.{le-refl, sub-zero}
 use lib.ListN.{length, drop}
 use Rattle.rules.specs.Checks.{Tables, Refusal, checks, sourceOf}
-use Rattle.rules.specs.Flat.{Built, Mark, flat, empty}
+use Rattle.rules.specs.Flat.{Built, Mark, tagLeaf, flat, empty}
 use Rattle.rules.specs.Limits.{treeWidth, droppedWidth}
 use Rattle.rules.specs.Outcome.{Out, went, refused}
 use Rattle.rules.specs.Position.{Pos}
-use Rattle.rules.specs.PutBack.{treeRows, droppedRows, leaves, Stored, stored, putBack, tokenTexts, EachToken, Rises}
+use Rattle.rules.specs.PutBack.{treeRows, droppedRows, leaves, textsOf, Stored, stored, putBack, tokenTexts, EachToken, pieceAt, InToken, Rises}
+use Rattle.rules.specs.Questions.{tagAt}
 use Rattle.rules.specs.Reading.{parse}
 use Rattle.rules.specs.Run.{accepted, over, afterReading, afterChecks, run}
 use Rattle.rules.specs.Tables.{tokenCount}
 use Rattle.rules.proofs.Checks
+use Rattle.rules.proofs.Fifth.{leaf-inside}
 use Rattle.rules.proofs.Goes.{Goes, goes}
 use Rattle.rules.proofs.HandedRows.{HasRead, rows-front, rows-read}
-use Rattle.rules.proofs.PutBack.{put-back, rises}
+use Rattle.rules.proofs.PutBack.{four-texts, put-back, rises}
 use Rattle.rules.proofs.Reached.{before, Sound, all-told}
 
 -- tables that passed the checks
@@ -79,6 +81,13 @@ module _ (t : Tables) (tree dropped : List ℕ) {rows drops : ℕ} (e : run t tr
   unfolding run
   each-token = after-checks t tree dropped (checks t (length dropped)) refl e
 
+  -- "a leaf's own token": each leaf lies inside the range of the token that its row names
+  pub leaf-token : (row : ℕ)
+      → row < rows
+      → tagAt (run t tree dropped .tree) row ≡ tagLeaf
+      → InToken (t .tokens) (pieceAt (run t tree dropped .tree) row)
+  leaf-token = leaf-inside rows (run t tree dropped .tree) each-token
+
   -- dropped rows rise by token
   pub dropped-rise : Rises (t .tokens) 0 (droppedRows drops (run t tree dropped .dropped))
   dropped-rise = rises each-token 0 (le-refl 0)
@@ -87,9 +96,13 @@ module _ (t : Tables) (tree dropped : List ℕ) {rows drops : ℕ} (e : run t tr
   abbrev pub storedOf : Stored
   storedOf = stored (t .text) (t .tokens) (treeRows rows (run t tree dropped .tree)) (droppedRows drops (run t tree dropped .dropped))
 
+  -- the texts of the leaves are read off the first four numbers
+  storedTexts : storedOf .leafTexts ≡ textsOf (t .text) (leaves (treeRows rows (run t tree dropped .tree)))
+  storedTexts = four-texts (t .text) (treeRows rows (run t tree dropped .tree))
+
   -- "In every accepted run, put the dropped texts back among the leaf texts where the dropped list says: the token texts return, joined in order."
   pub texts-return : putBack storedOf ≡ tokenTexts (t .text) (t .tokens)
-  texts-return = rw sub-zero at (put-back (t .text) (t .tokens) each-token)
+  texts-return = rw storedTexts (rw sub-zero at (put-back (t .text) (t .tokens) each-token))
 
 -- "So two accepted inputs whose joined texts differ never share tree, leaf texts and dropped list with its texts."
 pub never-share : (t t′ : Tables) (tree dropped tree′ dropped′ : List ℕ) {rows drops rows′ drops′ : ℕ}

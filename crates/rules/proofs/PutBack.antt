@@ -2,16 +2,18 @@
 -- induction over the tokens. A dropped row is met before the next leaf is, and not again, as later places have larger counts. Assumes nothing.
 use Prim.Native.Nat.{ℕ, suc, _+_, _-_, _≤_, _<_}
 use mathlib.Core.Path.{_≡_, refl, sym, ap, _∙_}
-use mathlib.Core.List.{List, [], _∷_, _++_, append-assoc}
+use mathlib.Core.List.{List, [], _∷_, _++_, map, append-assoc}
 use native.Mathlib.Omega.{arith}
 use native.Mathlib.Nat.{le-refl}
 use lib.ListN.{length, getD, take, drop}
-use lib.Seq.{drop-drop, take-add}
+use lib.Dec.{eqb}
+use lib.Seq.{drop-drop, take-add, getD-take}
 use borrow.Author.Tests.{eq-eqb, ne-eqb}
-use Rattle.rules.specs.Flat.{droppedRow}
+use Rattle.rules.specs.Flat.{four, tagLeaf, droppedRow}
 use Rattle.rules.specs.Tables.{tokenCount, part}
+use Rattle.rules.proofs.Characters.{either}
 use Rattle.rules.proofs.Reached.{Leaves, Dropped}
-use Rattle.rules.specs.PutBack.{textsOf, tokenText, withTexts, droppedAfter, backFrom, textsFrom, Parts, last, more, EachToken, end, leaf, split, drops, Rises, none, next}
+use Rattle.rules.specs.PutBack.{leaves, textsOf, tokenText, withTexts, droppedAfter, backFrom, textsFrom, Parts, last, more, EachToken, end, leaf, split, drops, Rises, none, next}
 
 -- ---- dropped texts that stand elsewhere
 
@@ -37,6 +39,17 @@ module _ (d : List ℕ × List ℕ) (ds : List (List ℕ × List ℕ)) where
   back-here k (l ∷ leaves) e =
       rw (after-here k e, back-past (k + 1) leaves (omega arith)) (append-assoc (d .1) (droppedAfter k ds) (l ++ backFrom (k + 1) leaves ds))
 
+-- ---- the texts of leaves are read off the first four numbers
+
+pub four-texts : (text : List ℕ) (rows : List (List ℕ)) → textsOf text (leaves (map four rows)) ≡ textsOf text (leaves rows)
+four-texts text [] = refl
+four-texts text (row ∷ rows) =
+    let same = four-texts text rows in
+    let first : (i : ℕ) → i < 4 → getD (four row) i 0 ≡ getD row i 0 = λ i low. getD-take 4 row i 0 low in
+    either (eqb (getD row 0 0) tagLeaf)
+    (λ e. rw (first 0 (omega arith), first 2 (omega arith), first 3 (omega arith), e) (ap (λ (l : List (List ℕ)). part text (getD row 2 0) (getD row 3 0) ∷ l) same))
+    (λ e. rw (first 0 (omega arith), e) same)
+
 -- ---- the parts of a range are the range's text
 
 pub part-add : (text : List ℕ) (start size rest : ℕ) → part text start (size + rest) ≡ part text start size ++ part text (start + size) rest
@@ -48,8 +61,8 @@ module _ (text tokens : List ℕ) where
   left dropped = withTexts text tokens dropped
 
   -- where no dropped text stands among the parts of a range, they give its text
-  parts-text : {start size : ℕ} {parts : Leaves} (leaves : Leaves) (ds : List (List ℕ × List ℕ)) (k : ℕ)
-      → Parts start size parts
+  parts-text : {token start size : ℕ} {parts : Leaves} (leaves : Leaves) (ds : List (List ℕ × List ℕ)) (k : ℕ)
+      → Parts token start size parts
       → ((j : ℕ) → j < k + length parts → droppedAfter j ds ≡ [])
       → backFrom k (textsOf text (parts ++ leaves)) ds ≡ part text start size ++ backFrom (k + length parts) (textsOf text leaves) ds
   parts-text {start} {size} leaves ds k (last some) away = rw (away k (omega arith))

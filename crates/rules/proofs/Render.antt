@@ -6,17 +6,21 @@ use mathlib.Core.List.{List, [], _∷_, _++_, append-assoc, append-nil}
 use native.Mathlib.Omega.{arith}
 use lib.ListN.{length, take, drop, length-append, take-append-drop}
 use lib.Seq.{take-take, drop-append-le, length-take-le, take-append-seam, drop-append-seam, take-length, drop-length, slice-empty}
-use Rattle.rules.specs.Flat.{startRow, finishRow}
-use Rattle.rules.specs.Rowan.{Parent, firstOf}
+use Rattle.rules.specs.Flat.{withToken, startRow, finishRow}
+use Rattle.rules.specs.Rowan.{Parent, firstOf, popped}
 use Rattle.rules.specs.Tree.{Tree, layout, layouts, forest, nodeOf}
 
 -- the rows of finished children
 abbrev pub laid : List Tree → List ℕ
 laid cs = layouts (forest cs)
 
+-- the start row of an open parent
+abbrev pub opening : Parent → List ℕ
+opening p = withToken (p .from) (startRow (p .kind))
+
 abbrev pub render : List Parent → List Tree → List ℕ
 render [] cs = laid cs
-render (p ∷ ps) cs = render ps (take (p .first) cs) ++ (startRow (p .kind) ++ laid (drop (p .first) cs))
+render (p ∷ ps) cs = render ps (take (p .first) cs) ++ (opening p ++ laid (drop (p .first) cs))
 
 laid-append : (xs ys : List Tree) → laid (xs ++ ys) ≡ laid xs ++ laid ys
 unfolding layouts
@@ -40,7 +44,7 @@ render-split (p ∷ ps) cs n low high =
     let parts : drop (p .first) cs ≡ own ++ drop n cs =
     ap (λ (l : List Tree). drop (p .first) l) (sym (take-append-drop n cs)) ∙ drop-append-le (p .first) (take n cs) (drop n cs) inside in
     rw (take-take (p .first) n cs low, ap laid parts ∙ laid-append own (drop n cs))
-    (sym (append-assoc (render ps (take (p .first) cs)) (startRow (p .kind) ++ laid own) (laid (drop n cs))))
+    (sym (append-assoc (render ps (take (p .first) cs)) (opening p ++ laid own) (laid (drop n cs))))
 
 -- one more child
 pub render-more : (ps : List Parent) (cs : List Tree) (x : Tree) → firstOf ps ≤ length cs → render ps (cs ++ (x ∷ [])) ≡ render ps cs ++ layout x
@@ -49,21 +53,21 @@ render-more ps cs x low =
     render-split ps (cs ++ (x ∷ [])) (length cs) low high ∙ rw (take-append-seam cs (x ∷ []), drop-append-seam cs (x ∷ []), laid-one x)
 
 -- one more parent, which begins at a child
-pub render-open : (p : Parent) (ps : List Parent) (cs : List Tree) → p .first ≡ length cs → render (p ∷ ps) cs ≡ render ps cs ++ startRow (p .kind)
+pub render-open : (p : Parent) (ps : List Parent) (cs : List Tree) → p .first ≡ length cs → render (p ∷ ps) cs ≡ render ps cs ++ opening p
 unfolding layouts
 render-open p ps cs e = rw (e, take-length cs, drop-length cs)
 
 -- the innermost parent's end is one more child of the next
-pub render-close : (p : Parent) (ps : List Parent) (cs : List Tree) → firstOf ps ≤ length (take (p .first) cs)
-    → render ps (take (p .first) cs ++ (nodeOf (p .kind) (drop (p .first) cs) ∷ [])) ≡ render (p ∷ ps) cs ++ finishRow (p .kind)
+pub render-close : (place : ℕ) (p : Parent) (ps : List Parent) (cs : List Tree) → firstOf ps ≤ length (take (p .first) cs)
+    → render ps (popped place (p ∷ ps) cs .1) ≡ render (p ∷ ps) cs ++ withToken place (finishRow (p .kind))
 unfolding layout
-render-close p ps cs low =
+render-close place p ps cs low =
     let stood = take (p .first) cs in
     let own = drop (p .first) cs in
-    render-more ps stood (nodeOf (p .kind) own) low ∙ sym (append-assoc (render ps stood) (startRow (p .kind) ++ laid own) (finishRow (p .kind)))
+    render-more ps stood (nodeOf (p .kind) (p .from) place own) low ∙ sym (append-assoc (render ps stood) (opening p ++ laid own) (withToken place (finishRow (p .kind))))
 
 -- up to the first child of the innermost parent there is nothing of it but its start row
 pub render-first : (p : Parent) (ps : List Parent) (cs : List Tree)
-    → render (p ∷ ps) (take (p .first) cs) ≡ render ps (take (p .first) cs) ++ startRow (p .kind)
+    → render (p ∷ ps) (take (p .first) cs) ≡ render ps (take (p .first) cs) ++ opening p
 unfolding layouts
 render-first p ps cs = rw (take-take (p .first) (p .first) cs (omega arith), slice-empty (p .first) cs)

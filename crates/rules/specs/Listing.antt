@@ -6,7 +6,7 @@ use lib.Dec.{eqb, ltb}
 use lib.ListN.{length}
 use Rattle.rules.specs.Flat.{tagStart, tagLeaf}
 use Rattle.rules.specs.Limits
-use Rattle.rules.specs.Questions.{rowCount, tagAt, kindAt, openAfter}
+use Rattle.rules.specs.Questions.{rowCount, tagAt, kindAt, tokenAt, openAfter}
 use Rattle.rules.specs.Run.{Answer, accepted, refusedAt}
 use Rattle.rules.specs.Tables.{cell}
 
@@ -49,10 +49,10 @@ wordD = 100 ∷ []
 -- tree line" (02, #101)
 unfoldable pub treeLine : List ℕ → ℕ → ℕ → List ℕ
 treeLine tree row depth =
-    cond (eqb (tagAt tree row) tagStart) (line (decimal depth) (kindAt tree row ∷ cell Limits.treeWidth tree row 4 ∷ []))
+    cond (eqb (tagAt tree row) tagStart) (line (decimal depth) (kindAt tree row ∷ tokenAt tree row ∷ []))
     (cond (eqb (tagAt tree row) tagLeaf)
     (line (decimal depth)
-    (kindAt tree row ∷ cell Limits.treeWidth tree row 2 ∷ cell Limits.treeWidth tree row 3 ∷ cell Limits.treeWidth tree row 4 ∷ []))
+    (kindAt tree row ∷ cell Limits.treeWidth tree row 2 ∷ cell Limits.treeWidth tree row 3 ∷ tokenAt tree row ∷ []))
     [])
 
 -- so many rows from `row` on, when `depth` nodes are open there: a start opens one, a finish closes one if any is open

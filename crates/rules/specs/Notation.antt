@@ -1,9 +1,11 @@
 -- How the tables of cases write formulas and trees: tokens and leaves with their texts, and trees with the names of 01, in parentheses for its
 -- brackets. 01's  Root[Attach[Arg[Text a] _ b]]  is here  Root (Attach (Arg (Text "a") & underscore & word "b"))
-use Prim.Native.Nat.{ℕ, _+_}
+use Prim.Native.Nat.{ℕ, _+_, _*_, _-_}
 use Prim.Native.Char.{code}
 use Prim.Native.String.{String, [] as no-more, _∷_ as _before_}
+use mathlib.Core.Bool.{cond}
 use mathlib.Core.List.{List, [], _∷_, _++_}
+use lib.Dec.{eqb}
 use lib.ListN.{length}
 use Rattle.rules.specs.Flat.{leafRow, startRow, finishRow, withToken, droppedRow}
 use Rattle.rules.specs.Items.{classCommand, classEnvironment}
@@ -14,6 +16,14 @@ use Rattle.rules.specs.SyntaxKind
 abbrev pub bytes : String → List ℕ
 bytes no-more = []
 bytes (c before rest) = code c ∷ bytes rest
+
+-- numbers in decimal digits, with a blank between two
+abbrev pub numbersFrom : ℕ → List ℕ → List ℕ
+numbersFrom n [] = n ∷ []
+numbersFrom n (byte ∷ rest) = cond (eqb byte 32) (n ∷ numbersFrom 0 rest) (numbersFrom (n * 10 + (byte - 48)) rest)
+
+abbrev pub numbers : String → List ℕ
+numbers text = numbersFrom 0 (bytes text)
 
 -- ---- formulas
 
@@ -183,6 +193,9 @@ underscore = leaf SyntaxKind.TokenUnderscore "_"
 
 abbrev pub caret : Shown
 caret = leaf SyntaxKind.TokenCaret "^"
+
+abbrev pub ampersand : Shown
+ampersand = leaf SyntaxKind.TokenAmpersand "&"
 
 abbrev pub apostrophe : Shown
 apostrophe = leaf SyntaxKind.TokenApostrophe "'"

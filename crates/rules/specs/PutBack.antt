@@ -9,7 +9,7 @@ use lib.Dec.{eqb}
 use lib.ListN.{length, getD, take, drop}
 use Rattle.rules.specs.Flat.{four, tagLeaf, droppedRow}
 use Rattle.rules.specs.Limits
-use Rattle.rules.specs.Tables.{tokenCount, kindAt, startAt, lengthAt, part}
+use Rattle.rules.specs.Tables.{cell, tokenCount, kindAt, startAt, lengthAt, part}
 use Rattle.rules.specs.Token
 
 -- so many rows of a buffer, each a list of its numbers: what stands behind them in the buffer is no part of them
@@ -113,6 +113,16 @@ pub data EachToken (tokens : List ℕ) : ℕ → ℕ → List Piece → List (Li
   drops : {i k reason : ℕ} {leaves : List Piece} {dropped : List (List ℕ)} → i < tokenCount tokens
       → EachToken tokens (i + 1) k leaves dropped
       → EachToken tokens i k leaves (droppedRow i reason k ∷ dropped)
+
+-- a leaf as its row tells it
+abbrev pub pieceAt : List ℕ → ℕ → Piece
+pieceAt tree row = record { start = cell Limits.treeWidth tree row 2; size = cell Limits.treeWidth tree row 3; token = cell Limits.treeWidth tree row 4 }
+
+-- a leaf lies inside the range of its token
+pub record InToken (tokens : List ℕ) (l : Piece) : Type 0 where
+  pub there : l .token < tokenCount tokens
+  pub low : startAt tokens (l .token) ≤ l .start
+  pub high : l .start + l .size ≤ startAt tokens (l .token) + lengthAt tokens (l .token)
 
 -- dropped rows rise by token: each names a token behind that of the row before it, which is at least `low`, and none past the last token
 pub data Rises (tokens : List ℕ) : ℕ → List (List ℕ) → Type 0 where

@@ -14,8 +14,7 @@ use Rattle.rules.specs.Tables.{cell, part}
 use Rattle.rules.specs.Tree.{Tree, Forest, leaf, node, more}
 
 -- ---- rows
--- "Tree row: tag (0 start, 1 leaf, 2 finish), kind, start, length", and a fifth number that no question reads. What is left over behind the last
--- whole row is no row
+-- "Tree row: tag (0 start, 1 leaf, 2 finish), kind, start, length", and the fifth number. What is left over behind the last whole row is no row
 abbrev pub rowCount : List ℕ → ℕ
 rowCount tree = length tree / Limits.treeWidth
 
@@ -24,6 +23,10 @@ tagAt tree row = cell Limits.treeWidth tree row 0
 
 abbrev pub kindAt : List ℕ → ℕ → ℕ
 kindAt tree row = cell Limits.treeWidth tree row 1
+
+-- the fifth number: "a leaf's own token, and for other rows the first token not wholly read just before the row was made" (02, #101)
+abbrev pub tokenAt : List ℕ → ℕ → ℕ
+tokenAt tree row = cell Limits.treeWidth tree row 4
 
 -- whether there is such a row, and it has the tag
 unfoldable pub tagged : ℕ → List ℕ → ℕ → Bool
