@@ -39,6 +39,18 @@ module _ {X : Type 0} {Q : X → Type 0} where
   went-goes {x} (goes {x = y} h) e = let same : y ≡ x = cc in rw same at h
   went-goes (stopped number place) e = let z : _≡_ {A = ℕ} 0 1 = cc in absurd (omega arith)
 
+-- it makes this, if it goes on
+abbrev pub Makes : {X : Type 0} → X → Out X → Type 0
+Makes x o = Goes (λ y. y ≡ x) o
+
+module _ {X : Type 0} {x : X} {o : Out X} where
+  pub makes-goes : {Q : X → Type 0} → Makes x o → Q x → Goes Q o
+  makes-goes {Q} makes h = weaker-goes (λ y e. rw e h) makes
+
+  -- and what comes behind it goes on from there
+  pub makes-then : {Y : Type 0} {P : Y → Type 0} → Makes x o → (f : X → Out Y) → Goes P (f x) → Goes P (bind o f)
+  makes-then makes f h = bind-goes makes (λ y e. rw e h)
+
 pub steps-go : {X : Type 0} {Q P : X → Type 0} {fs : List (X → Out X)} → Line Q P fs → Takes Q P (steps fs)
 unfolding steps
 steps-go done x h = goes h

@@ -17,7 +17,6 @@ pub mod HandedRows
 pub mod Levels
 pub mod Listing
 pub mod NothingLost
-pub mod Noting
 pub mod OnTree
 pub mod Progress
 pub mod PutBack

@@ -11,11 +11,11 @@ use lib.ListN.{length}
 use Rattle.rules.specs.Exactly.{Reason, trivia, opener, closer, Reasoned, no-row, a-row, kindOf, isBlank, opensIf, passes, blanksFrom, passedBefore, endOf, isBody, closing, closerRow, droppedIn, droppedAll, droppedPassing}
 use Rattle.rules.specs.Flat.{droppedRow, reasonTrivia, reasonOpener, reasonCloser}
 use Rattle.rules.specs.Limits
-use Rattle.rules.specs.Placed.{Placed, Places, leaf, node, none, more, leavesIn, leavesAll}
 use Rattle.rules.specs.Position.{Source}
 use Rattle.rules.specs.SyntaxKind
 use Rattle.rules.specs.Tables.{tokenCount}
 use Rattle.rules.specs.Token
+use Rattle.rules.specs.Tree.{Tree, Forest, leaf, node, none, more, leavesIn, leavesAll}
 
 module _ (source : Source) where
   pub whole-rows : {n : ℕ} {l : List ℕ} → Reasoned source n l → n * Limits.droppedWidth ≡ length l
@@ -51,7 +51,7 @@ module _ (source : Source) where
   blanks-rows (suc n) token leaves =
       both-rows (cond-rows (isBlank source token) (λ e. one-row token reasonTrivia leaves (trivia e)) no-rows) (blanks-rows n (token + 1) leaves)
 
-  passed-rows : (behind : ℕ) (t : Placed) (leaves : ℕ) → Rows (passedBefore source behind t leaves)
+  passed-rows : (behind : ℕ) (t : Tree) (leaves : ℕ) → Rows (passedBefore source behind t leaves)
   passed-rows behind (leaf l) leaves = no-rows
   passed-rows behind (node kind from to inside) leaves =
       cond-rows (eqb kind SyntaxKind.ClauseArgument) (λ _. blanks-rows (from - behind) behind leaves) no-rows
@@ -95,7 +95,7 @@ module _ (source : Source) where
   mutual
     unfolding droppedIn
 
-    pub dropped-rows : (t : Placed) (leaves : ℕ) → Rows (droppedIn source leaves t)
+    pub dropped-rows : (t : Tree) (leaves : ℕ) → Rows (droppedIn source leaves t)
     dropped-rows (leaf l) leaves = no-rows
     dropped-rows (node kind from to inside) leaves =
         let left = tokenCount (source .tokens) - (from + 1) in
@@ -103,11 +103,11 @@ module _ (source : Source) where
         cond-rows (isBody source kind from) (λ e. both-rows (one-row from reasonOpener leaves (opener-fits kind from e)) closed)
         (cond-rows (passes source kind from) (λ _. passing-rows inside from leaves) (all-rows inside leaves))
 
-    all-rows : (ts : Places) (leaves : ℕ) → Rows (droppedAll source leaves ts)
+    all-rows : (ts : Forest) (leaves : ℕ) → Rows (droppedAll source leaves ts)
     all-rows none leaves = no-rows
     all-rows (more t rest) leaves = both-rows (dropped-rows t leaves) (all-rows rest (leaves + leavesIn t))
 
-    passing-rows : (ts : Places) (behind leaves : ℕ) → Rows (droppedPassing source behind leaves ts)
+    passing-rows : (ts : Forest) (behind leaves : ℕ) → Rows (droppedPassing source behind leaves ts)
     passing-rows none behind leaves = no-rows
     passing-rows (more t rest) behind leaves =
         both-rows (passed-rows behind t leaves) (both-rows (dropped-rows t leaves) (passing-rows rest (endOf source t) (leaves + leavesIn t)))

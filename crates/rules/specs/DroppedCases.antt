@@ -156,5 +156,5 @@ abbrev pub wanted : Formula → Option (List ℕ)
 wanted f = some (droppedOf (f .dropped))
 
 pub examples : map (λ (f : Formula). written f ∷ listed f ∷ []) formulas ≡ map (λ (f : Formula). wanted f ∷ wanted f ∷ []) formulas
-unfolding the-run Tree.leavesIn Tree.leavesAll Rowan.token Rowan.pushed Rowan.startNode Rowan.startNodeAt Rowan.finishNode Exactly.greedyName Exactly.passes Exactly.isBlank Exactly.opensIf Exactly.blanksFrom Exactly.isBody Exactly.closing Exactly.droppedIn Exactly.droppedAll Exactly.droppedPassing
+unfolding the-run Tree.leavesIn Tree.leavesAll Rowan.leafed Rowan.token Rowan.pushed Rowan.startNode Rowan.startNodeAt Rowan.closed Rowan.finishNode Exactly.greedyName Exactly.passes Exactly.isBlank Exactly.opensIf Exactly.blanksFrom Exactly.isBody Exactly.closing Exactly.droppedIn Exactly.droppedAll Exactly.droppedPassing
 examples = refl

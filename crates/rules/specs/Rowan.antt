@@ -43,17 +43,20 @@ orNoRoom room place g go = cond (ltb (g .rows) (room / Limits.treeWidth)) go (re
 abbrev pub orTooManyOpen : ℕ → Green → Out Green → Out Green
 orTooManyOpen place g go = cond (leb Limits.nodes (length (g .parents))) (refused tooManyOpen place) go
 
--- `token`: one finished child more
-unfoldable pub token : ℕ → ℕ → Leaf → Green → Out Green
-token room place l g =
-    orNoRoom room place g
-    (went (record {
+-- one finished child more
+unfoldable pub leafed : Leaf → Green → Green
+leafed l g =
+    record {
       parents = g .parents;
       children = g .children ++ (leaf l ∷ []);
       rows = g .rows + 1;
       leaves = g .leaves + 1;
       dropped = g .dropped;
-    }))
+    }
+
+-- `token`
+unfoldable pub token : ℕ → ℕ → Leaf → Green → Out Green
+token room place l g = orNoRoom room place g (went (leafed l g))
 
 -- a parent is pushed, with a count of finished children as its first. What was begun at a mark is begun at the place of the wrap: a command's node
 -- always begins at its name
@@ -83,11 +86,14 @@ abbrev pub popped : ℕ → List Parent → List Tree → List Parent × List Tr
 popped place [] children = ([], children)
 popped place (p ∷ ps) children = (ps, take (p .first) children ++ (nodeOf (p .kind) (p .from) place (drop (p .first) children) ∷ []))
 
+unfoldable pub closed : ℕ → Green → Green
+closed place g =
+    let left = popped place (g .parents) (g .children) in
+    record { parents = left .0; children = left .1; rows = g .rows + 1; leaves = g .leaves; dropped = g .dropped }
+
 -- `finish_node`
 unfoldable pub finishNode : ℕ → ℕ → Green → Out Green
-finishNode room place g =
-    let left = popped place (g .parents) (g .children) in
-    orNoRoom room place g (went (record { parents = left .0; children = left .1; rows = g .rows + 1; leaves = g .leaves; dropped = g .dropped }))
+finishNode room place g = orNoRoom room place g (went (closed place g))
 
 -- "Dropped row: token index, reason (1 trivia, 2 opener, 3 closer), leaves written before it."
 abbrev pub noted : ℕ → ℕ → Green → Green
