@@ -10,6 +10,7 @@ pub mod Depth
 pub mod Exactly
 pub mod Fifth
 pub mod Flat
+pub mod Fours
 pub mod Goes
 pub mod Handed
 pub mod HandedItems
