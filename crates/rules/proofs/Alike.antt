@@ -219,7 +219,7 @@ module _ (room : ℕ) where
   -- ---- the operations
 
   leafs : LeafKeeps (flat room) (rowan room) NoSkip Known Alike
-  unfolding Flat.leaf Flat.leafed Rowan.token layout
+  unfolding Flat.leaf Flat.leafed Rowan.leafed Rowan.token layout
   leafs place l top w _ _ (alike {t} {ps} {cs} tied levels) =
       let x = leaf l in
       onTree~ _ (room~ place (t .rows) (went~ (alike
@@ -256,7 +256,7 @@ module _ (room : ℕ) where
       (rw (take-length cs) levels))))))
 
   finishes : FinishKeeps (flat room) (rowan room) NoSkip Known Alike
-  unfolding Flat.finish Flat.finished Rowan.finishNode
+  unfolding Flat.finish Flat.finished Rowan.closed Rowan.finishNode
   finishes place n live top w _ _ (alike {t} {cs} tied (inside {k} {first} {from} {ps} begun falling levels)) =
       let p = parent k first from in
       let long : length (take first cs) ≡ first = length-take-le first cs (begun .high) in
@@ -271,7 +271,7 @@ module _ (room : ℕ) where
       (levels-more (nodeOf k from place (drop first cs)) levels))))
 
   ends : EndGives (flat room) (rowan room) NoSkip Known Alike Whole
-  unfolding Flat.finish Flat.finished Rowan.finishNode layout
+  unfolding Flat.finish Flat.finished Rowan.closed Rowan.finishNode layout
   ends place f g live _ _ (alike {t} {cs} tied (inside {first} {from} begun falling (outside none))) =
       onTree~ _ (room~ place (t .rows) (went~ (record {
         tree = nodeOf ScopeRoot from place (drop first cs);

@@ -1,73 +1,99 @@
 -- What is dropped is exactly what the demand lists: of every accepted run, the dropped rows are those that `Exactly.dropped` reads off the run's tree
--- and the kinds of the tokens. The run's rows are those of that tree. The flat run's tree is rowan's (Alike.antt), rowan's is the one with places
--- (Noting.antt), and of that one every routine keeps that its dropped rows are the definition's (Control.antt). Assumes nothing.
-use Prim.Native.Nat.{ℕ, _*_, _/_}
+-- and the kinds of the tokens. The run's rows are those of that tree. The flat run's tree is rowan's (Alike.antt), and of that one every routine
+-- keeps that its dropped rows are the definition's (Control.antt). With whatever room, what is read has one tree. Assumes nothing.
+use Prim.Native.Nat.{ℕ, _*_, _/_, _≤_}
 use mathlib.Core.Path.{_≡_, refl, sym, ap, _∙_}
 use mathlib.Core.List.{List, [], _∷_}
 use mathlib.Core.Option.{Option, none, some}
 use native.Mathlib.Omega.{arith}
+use lib.Dec.{leb}
 use lib.ListN.{length, take, drop}
 use lib.Seq.{take-append-seam}
+use borrow.Author.Tests.{leb-true, leb-false}
 use Rattle.rules.specs.Checks.{Tables, Refusal, checks, sourceOf}
-use Rattle.rules.specs.Exactly.{dropped, RanExactly}
+use Rattle.rules.specs.Exactly.{dropped, TreeOf, RanExactly}
 use Rattle.rules.specs.Flat
 use Rattle.rules.specs.Flat.{Built, Mark, flat}
 use Rattle.rules.specs.Limits
 use Rattle.rules.specs.Outcome.{Out, went, refused}
-use Rattle.rules.specs.Placed.{Placed, Placing, bare, TreeOf}
 use Rattle.rules.specs.Position.{Pos, Source}
 use Rattle.rules.specs.Reading.{parse}
+use Rattle.rules.specs.Rowan.{Green}
 use Rattle.rules.specs.Run.{accepted, over, afterReading, afterChecks, run}
-use Rattle.rules.specs.SyntaxKind.{ScopeRoot}
-use Rattle.rules.specs.Tree.{Tree, node, layout}
+use Rattle.rules.specs.Tree.{Tree, layout}
 use Rattle.rules.proofs.Alike as alike
-use Rattle.rules.proofs.Control.{exactly-noted}
+use Rattle.rules.proofs.Alike.{FlatRun, RowanRun, Whole, SameRun, both-went, both-refused}
+use Rattle.rules.proofs.Characters.{either}
+use Rattle.rules.proofs.Control.{exact-run}
+use Rattle.rules.proofs.Fours.{fours, layout-tells}
 use Rattle.rules.proofs.Goes.{went-goes}
-use Rattle.rules.proofs.Noting.{trees, noted-run, accepted-noted}
 use Rattle.rules.proofs.Reasons.{whole-rows, dropped-rows}
+use Rattle.rules.proofs.Room.{accepted-with-more}
 
 -- ---- runs
 
 -- the tree of a run, whose rows these are; and the dropped rows are those of the tree
-pub record Exactly (source : Source) (rows rowsDropped : List ℕ) : Type 0 where
-  pub tree : Placed
-  pub of : TreeOf source tree
-  pub laid : rows ≡ layout (bare tree)
+pub record Exactly (room : ℕ) (source : Source) (rows rowsDropped : List ℕ) : Type 0 where
+  pub tree : Tree
+  pub of : TreeOf room source tree
+  pub laid : rows ≡ layout tree
   pub only : rowsDropped ≡ dropped source tree
 
-the-same : {x y : Tree} → _≡_ {A = List Tree} (x ∷ []) (y ∷ []) → x ≡ y
-the-same e = cc
-
-the-child : {x y : Placed} → _≡_ {A = List Placed} (x ∷ []) (y ∷ []) → x ≡ y
+the-child : {x y : Tree} → _≡_ {A = List Tree} (x ∷ []) (y ∷ []) → x ≡ y
 the-child e = cc
 
-the-end : {p q : Pos Placing ℕ} → went p ≡ went q → p ≡ q
-the-end e = cc
-
 module _ (room : ℕ) (source : Source) where
-  pub exactly : (p : Pos Built Mark) → parse (flat room) source Flat.empty ≡ went p → Exactly source (p .built .tree .tree) (p .built .dropped)
+  pub exactly : (p : Pos Built Mark) → parse (flat room) source Flat.empty ≡ went p → Exactly room source (p .built .tree .tree) (p .built .dropped)
   exactly p e =
       let green = alike.accepted (alike.same-run room source) e in
       let whole = green .3 in
-      let notes = accepted-noted (noted-run room source) (green .1) in
-      let twin = notes .2 in
-      let exact = went-goes (exactly-noted source) (notes .1) in
-      let is : node ScopeRoot (whole .inside) ≡ bare (exact .tree) =
-      the-same (sym (whole .tree) ∙ twin .children ∙ ap (λ (ts : List Placed). trees ts) (exact .children)) in
+      let exact = went-goes (exact-run room source) (green .1) in
+      let is : whole .tree ≡ exact .tree = the-child (sym (whole .is) ∙ exact .children) in
       record {
         tree = exact .tree;
-        of = record { end = notes .0; run = notes .1; is = exact .children };
+        of = record { end = green .0; run = green .1; is = exact .children };
         laid = whole .rows ∙ ap (λ (t : Tree). layout t) is;
-        only = whole .dropped ∙ twin .dropped ∙ exact .dropped;
+        only = whole .dropped ∙ exact .dropped;
       }
 
--- ---- whole runs
+-- ---- one tree
 
--- what is read has one tree
-pub only-tree : {source : Source} {t u : Placed} → TreeOf source t → TreeOf source u → t ≡ u
-only-tree a b =
-    let ends : a .end ≡ b .end = the-end (sym (a .run) ∙ b .run) in
-    the-child (sym (a .is) ∙ ap (λ (p : Pos Placing ℕ). p .built .children) ends ∙ b .is)
+-- the flat run beside a run of rowan's
+beside : {o : FlatRun} {u : RowanRun} {q : Pos Green ℕ} → SameRun o u → u ≡ went q → (p : Pos Built Mark) × (o ≡ went p) × Whole (p .built) (q .built)
+beside {q} (both-went {p} {q = q′} at whole) e =
+    let same : q′ ≡ q = cc in
+    (p, refl, rw same at whole)
+beside (both-refused number place known) e = let z : _≡_ {A = ℕ} 0 1 = cc in absurd (omega arith)
+
+-- the flat rows of a tree
+record Laid (room : ℕ) (source : Source) (t : Tree) : Type 0 where
+  end : Pos Built Mark
+  run : parse (flat room) source Flat.empty ≡ went end
+  are : end .built .tree .tree ≡ layout t
+
+laid-out : {room : ℕ} {source : Source} {t : Tree} → TreeOf room source t → Laid room source t
+laid-out {room} {source} h =
+    let flat-run = beside (alike.same-run room source) (h .run) in
+    let whole = flat-run .2 in
+    record { end = flat-run .0; run = flat-run .1; are = whole .rows ∙ ap (λ (t : Tree). layout t) (the-child (sym (whole .is) ∙ h .is)) }
+
+same-end : {o : FlatRun} {p q : Pos Built Mark} → o ≡ went p → o ≡ went q → p ≡ q
+same-end e d = cc
+
+-- the larger room gives the same rows
+one-layout : {room room′ : ℕ} {source : Source} {t u : Tree} → room ≤ room′ → Laid room source t → Laid room′ source u → t ≡ u
+one-layout {room} {room′} {source} {t} {u} larger a b =
+    let ends = same-end (accepted-with-more room room′ larger source (a .end) (a .run)) (b .run) in
+    layout-tells t u (sym (a .are) ∙ ap (λ (p : Pos Built Mark). p .built .tree .tree) ends ∙ b .are)
+
+-- with whatever room, what is read has one tree
+pub only-tree : {room room′ : ℕ} {source : Source} {t u : Tree} → TreeOf room source t → TreeOf room′ source u → t ≡ u
+only-tree {room} {room′} a b =
+    either (leb room room′)
+    (λ e. one-layout (leb-true room room′ e) (laid-out a) (laid-out b))
+    (λ e. let less = leb-false room room′ e in sym (one-layout (omega arith) (laid-out b) (laid-out a)))
+
+-- ---- whole runs
 
 -- what is written over a buffer is what the buffer then begins with
 begins : (l buffer : List ℕ) (n : ℕ) → n ≡ length l → take n (over l buffer) ≡ l
@@ -83,13 +109,15 @@ module _ (t : Tables) (tree buffer : List ℕ) (rows count : ℕ) where
   reading : (o : Out (Pos Built Mark))
       → parse (flat (length tree)) (sourceOf t) Flat.empty ≡ o
       → afterReading tree buffer o .answer ≡ accepted rows count
-      → RanExactly t rows count (afterReading tree buffer o)
+      → RanExactly t (length tree) rows count (afterReading tree buffer o)
   reading (refused number place) e is = let z : _≡_ {A = ℕ} 0 1 = cc in absurd (omega arith)
   reading (went p) e is =
       let built = p .built in
       let exact = exactly (length tree) (sourceOf t) p e in
       let whole = alike.accepted (alike.same-run (length tree) (sourceOf t)) e .3 in
       let same = counts is in
+      let size : rows * Limits.treeWidth ≡ length (built .tree .tree) = rw (← same .0) (whole .size) in
+      let laid = begins (built .tree .tree) tree (rows * Limits.treeWidth) size ∙ exact .laid in
       let reasoned = dropped-rows (sourceOf t) (exact .tree) 0 in
       let long = whole-rows (sourceOf t) (reasoned .rows) ∙ ap (λ (l : List ℕ). length l) (sym (exact .only)) in
       let counted : reasoned .count ≡ count = sym (whole-count (reasoned .count) (length (built .dropped)) long) ∙ same .1 in
@@ -98,16 +126,19 @@ module _ (t : Tables) (tree buffer : List ℕ) (rows count : ℕ) where
       record {
         tree = exact .tree;
         of = exact .of;
-        laid = begins (built .tree .tree) tree (rows * Limits.treeWidth) (rw (← same .0) (whole .size)) ∙ exact .laid;
+        laid = laid;
+        base = fours (exact .tree) rows (over (built .tree .tree) tree) (size ∙ ap (λ (l : List ℕ). length l) (exact .laid)) laid;
         only = notes;
         reasons = rw (notes, ← counted) (reasoned .rows);
       }
 
-  checked : (o : Option Refusal) → afterChecks o t tree buffer .answer ≡ accepted rows count → RanExactly t rows count (afterChecks o t tree buffer)
+  checked : (o : Option Refusal)
+      → afterChecks o t tree buffer .answer ≡ accepted rows count
+      → RanExactly t (length tree) rows count (afterChecks o t tree buffer)
   checked (some refusal) is = let z : _≡_ {A = ℕ} 0 1 = cc in absurd (omega arith)
   checked none is = reading (parse (flat (length tree)) (sourceOf t) Flat.empty) refl is
 
   -- "In every accepted run": the dropped rows are exactly those that the demand lists
-  pub run-exactly : run t tree buffer .answer ≡ accepted rows count → RanExactly t rows count (run t tree buffer)
+  pub run-exactly : run t tree buffer .answer ≡ accepted rows count → RanExactly t (length tree) rows count (run t tree buffer)
   unfolding run
   run-exactly is = checked (checks t (length buffer)) is
