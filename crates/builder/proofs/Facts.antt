@@ -7,6 +7,7 @@ use lib.ListN.{length, drop}
 use borrow.Author.Tests.{eqb-true}
 use lib.Dec.{eqb}
 use mathlib.Core.Bool.{Bool, true, false, cond}
+use Rattle.rules.specs.Builder.{Leaf}
 use Rattle.rules.specs.Limits.{treeWidth, nodes}
 use Rattle.rules.specs.Outcome.{Out, went}
 use Rattle.rules.specs.Flat as flat
@@ -86,12 +87,12 @@ start-row m b t within inside le = by-test (eqb (m .children) (b .first)) refl
     by-test true e = let same = eqb-true (m .children) (b .first) e in (omega arith, omega arith)
     by-test false e = (inside .children, inside .row)
 
-module _ {b u : GreenNodeBuilder} {t v : List ℕ} {r : Built} (fits : Fits b t) (e : r ≡ Went u) (long : length v ≡ length t) (place kind : ℕ) where
-  pub leafs : (from size : ℕ) → Did (λ n. flat.leaf n place kind from size (rowsOf b t)) t r v → Leafs b t u v
+module _ {b u : GreenNodeBuilder} {t v : List ℕ} {r : Built} (fits : Fits b t) (e : r ≡ Went u) (long : length v ≡ length t) (place : ℕ) where
+  pub leafs : (l : Leaf) → Did (λ n. flat.leaf n place l (rowsOf b t)) t r v → Leafs b t u v
   unfolding flat.leafed
-  leafs from size k =
+  leafs l k =
       let is = went-is k e in
-      let went = leaf-went (length t) place (rowsOf b t) (rowsOf u v) kind from size (is .0) in
+      let went = leaf-went (length t) place (rowsOf b t) (rowsOf u v) l (is .0) in
       let n = numbers v (went .1) in
       record {
         rest = is .1;
@@ -103,9 +104,9 @@ module _ {b u : GreenNodeBuilder} {t v : List ℕ} {r : Built} (fits : Fits b t)
         node = sym (n .node);
       }
 
-  pub starts : Did (λ n. flat.start n place kind (rowsOf b t)) t r v → Opens b t u v
+  pub starts : (kind : ℕ) → Did (λ n. flat.start n place kind (rowsOf b t)) t r v → Opens b t u v
   unfolding flat.started
-  starts k =
+  starts kind k =
       let is = went-is k e in
       let went = start-went (length t) place (rowsOf b t) (rowsOf u v) kind (is .0) in
       let n = numbers v (went .2) in
@@ -120,9 +121,9 @@ module _ {b u : GreenNodeBuilder} {t v : List ℕ} {r : Built} (fits : Fits b t)
       }
 
   module _ (within : Within b) where
-    pub finishes : (f : flat.Frame) → Did (λ n. flat.finish n place kind f (rowsOf b t)) t r v → Closes b t f u v
+    pub finishes : (kind : ℕ) (f : flat.Frame) → Did (λ n. flat.finish n place kind f (rowsOf b t)) t r v → Closes b t f u v
     unfolding flat.finished
-    finishes f k =
+    finishes kind f k =
         let is = went-is k e in
         let went = finish-went (length t) place (rowsOf b t) (rowsOf u v) kind f (is .0) in
         let n = numbers v (went .1) in
@@ -136,9 +137,9 @@ module _ {b u : GreenNodeBuilder} {t v : List ℕ} {r : Built} (fits : Fits b t)
           node = sym (n .node);
         }
 
-    pub wraps : (m : Checkpoint) → Inside m b → Did (λ n. flat.wrap n place kind (markOf m) (rowsOf b t)) t r v → Opens b t u v
+    pub wraps : (kind : ℕ) (m : Checkpoint) → Inside m b → Did (λ n. flat.wrap n place kind (markOf m) (rowsOf b t)) t r v → Opens b t u v
     unfolding flat.startedAt flat.finished
-    wraps m inside k =
+    wraps kind m inside k =
         let is = went-is k e in
         let went = wrap-went (length t) place (rowsOf b t) (rowsOf u v) kind (markOf m) (is .0) in
         let n = numbers v (went .3) in

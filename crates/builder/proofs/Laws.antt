@@ -8,6 +8,7 @@ use lib.ListN.{length, take, drop}
 use lib.Seq.{drop-drop}
 use borrow.Author.Tests.{eq-eqb, ne-eqb}
 use borrow.Rule.Slice.PartMut.{putMid}
+use Rattle.rules.specs.Builder.{Leaf}
 use Rattle.rules.specs.Limits.{treeWidth, nodes}
 use Rattle.rules.specs.Outcome.{Out, went, refused}
 use Rattle.rules.specs.SyntaxKind.{ClauseArgument}
@@ -48,14 +49,11 @@ module _ (b : GreenNodeBuilder) (t v : List ℕ) (free : b .rows < length t / tr
         node = b .node;
       }
 
-  pub leafed :
-      (place kind from size : ℕ)
-      → Behind (flat.leafRow kind from size)
-      → Did (λ n. flat.leaf n place kind from size (rowsOf b t)) t (Went withLeaf) v
+  pub leafed : (place : ℕ) (l : Leaf) → Behind (flat.rowOf l) → Did (λ n. flat.leaf n place l (rowsOf b t)) t (Went withLeaf) v
   unfolding flat.leafed
-  leafed place kind from size e =
-      let row = flat.leafRow kind from size in
-      record { is = rw (leaf-goes (length t) place (rowsOf b t) free kind from size, rows-are row refl e); rest = rest-is row refl e }
+  leafed place l e =
+      let row = flat.rowOf l in
+      record { is = rw (leaf-goes (length t) place (rowsOf b t) free l, rows-are row refl e); rest = rest-is row refl e }
 
   abbrev withStart : GreenNodeBuilder
   withStart =
@@ -71,11 +69,11 @@ module _ (b : GreenNodeBuilder) (t v : List ℕ) (free : b .rows < length t / tr
   pub started :
       (place kind : ℕ)
       → b .depth < nodes
-      → Behind (flat.startRow kind)
+      → Behind (flat.withToken place (flat.startRow kind))
       → Did (λ n. flat.start n place kind (rowsOf b t)) t (Went withStart) v
   unfolding flat.started
   started place kind few e =
-      let row = flat.startRow kind in
+      let row = flat.withToken place (flat.startRow kind) in
       record { is = rw (start-goes (length t) place (rowsOf b t) free kind few, rows-are row refl e); rest = rest-is row refl e }
 
   abbrev withFinish : flat.Frame → GreenNodeBuilder
@@ -91,11 +89,11 @@ module _ (b : GreenNodeBuilder) (t v : List ℕ) (free : b .rows < length t / tr
 
   pub finished :
       (place kind : ℕ) (f : flat.Frame)
-      → Behind (flat.finishRow kind)
+      → Behind (flat.withToken place (flat.finishRow kind))
       → Did (λ n. flat.finish n place kind f (rowsOf b t)) t (Went (withFinish f)) v
   unfolding flat.finished
   finished place kind f e =
-      let row = flat.finishRow kind in
+      let row = flat.withToken place (flat.finishRow kind) in
       record { is = rw (finish-goes (length t) place (rowsOf b t) free kind f, rows-are row refl e); rest = rest-is row refl e }
 
 -- ---- a node that begins at a mark
@@ -110,7 +108,7 @@ module _ (b : GreenNodeBuilder) (t : List ℕ) (m : Checkpoint) where
   at-mark e low high = record { is = rw (ne-eqb (m .children) (b .first) e); low = low; high = high }
 
 -- the rows from row a on moved down, and the node's start row stands there
-module _ (b : GreenNodeBuilder) (t part : List ℕ) (kind : ℕ) (m : Checkpoint) (a : ℕ) where
+module _ (b : GreenNodeBuilder) (t part : List ℕ) (place kind : ℕ) (m : Checkpoint) (a : ℕ) where
   abbrev withStartAt : GreenNodeBuilder
   withStartAt =
       record {
@@ -132,13 +130,13 @@ module _ (b : GreenNodeBuilder) (t part : List ℕ) (kind : ℕ) (m : Checkpoint
   pub opened :
       StartRow b [] m a
       → end + treeWidth ≤ length t
-      → Returned begin end treeWidth t part (flat.startRow kind)
-      → Opened b t kind m withStartAt (putMid begin (end + treeWidth - begin) t part)
+      → Returned begin end treeWidth t part (flat.withToken place (flat.startRow kind))
+      → Opened b t place kind m withStartAt (putMid begin (end + treeWidth - begin) t part)
   unfolding flat.startedAt flat.startAtRow
   opened at fit e =
       let high = at .high in
       let low : begin ≤ end = omega arith in
-      let row = flat.startRow kind in
+      let row = flat.withToken place (flat.startRow kind) in
       record {
         is = rw (at .is, next-row treeWidth (b .rows), ← inserted begin end treeWidth t part row low fit refl e);
         rest = rw (next-row treeWidth (b .rows)) (behind begin end treeWidth t part row low fit refl e);
@@ -186,23 +184,23 @@ pub record Judged (b : GreenNodeBuilder) (t : List ℕ) (m : Checkpoint) : Type 
   pub free : b .rows + 2 < length t / treeWidth
 
 -- the first opening went: the second may be asked for
-module _ {b o : GreenNodeBuilder} {t v : List ℕ} {kind : ℕ} {m : Checkpoint} (judged : Judged b t m) (first : Opened b t kind m o v)
+module _ {b o : GreenNodeBuilder} {t v : List ℕ} {place kind : ℕ} {m : Checkpoint} (judged : Judged b t m) (first : Opened b t place kind m o v)
     (vt : length v ≡ length t) where
   pub again : Within o × Inside m o × (o .rows * treeWidth + treeWidth ≤ length v) × (o .depth < nodes)
   again = (omega arith, omega arith, omega arith, omega arith)
 
   -- it went too: the end of the inner node may be asked for, and is the answer
-  module _ {i : GreenNodeBuilder} {w : List ℕ} (second : Opened o v ClauseArgument m i w) (wv : length w ≡ length v) where
+  module _ {i : GreenNodeBuilder} {w : List ℕ} (second : Opened o v place ClauseArgument m i w) (wv : length w ≡ length v) where
     pub closable : Fits i w × Within i
     closable = (omega arith, omega arith)
 
     pub wrapped :
-        (place : ℕ) {f : code.Frame} {r : Built} {x : List ℕ}
+        {f : code.Frame} {r : Built} {x : List ℕ}
         → frameOf f ≡ flat.frameOf (rowsOf o [])
         → Did (λ n. flat.finish n place ClauseArgument (frameOf f) (rowsOf i w)) w r x
         → Did (λ n. flat.wrap n place kind (markOf m) (rowsOf b t)) t r x
     unfolding flat.finished
-    wrapped place {f} {r} {x} parent last =
+    wrapped {f} {r} {x} parent last =
         let long : length w ≡ length t = wv ∙ vt in
         let rows = first .rows in
         let rows′ = second .rows in
@@ -214,6 +212,6 @@ module _ {b o : GreenNodeBuilder} {t v : List ℕ} {kind : ℕ} {m : Checkpoint}
         let unmoved = second .rest ∙ drop-more (o .rows * treeWidth) (i .rows * treeWidth) v t (omega arith) (first .rest) in
         record {
           is = both ∙ rw (first .is, second .is) is;
-          rest = rest-of r (flat.finished ClauseArgument outer (rowsOf i w)) (i .rows * treeWidth) t w x (sym goes ∙ is) (omega arith) unmoved
+          rest = rest-of r (flat.finished place ClauseArgument outer (rowsOf i w)) (i .rows * treeWidth) t w x (sym goes ∙ is) (omega arith) unmoved
               (last .rest);
         }

@@ -21,6 +21,9 @@ two-on i = omega arith
 pub three-on : (i : ℕ) → i + 3 ≡ suc (suc (suc i))
 three-on i = omega arith
 
+pub four-on : (i : ℕ) → i + 4 ≡ suc (suc (suc (suc i)))
+four-on i = omega arith
+
 -- numbers stored one after the other
 pub stored : (row t : List ℕ) (i : ℕ) → i + length row ≤ length t → sets t i row ≡ take i t ++ (row ++ drop (i + length row) t)
 stored row t i fit = sets-eq row t i fit ∙ append-assoc (take i t) row (drop (i + length row) t)

@@ -60,8 +60,8 @@ pub record StartRow (b : GreenNodeBuilder) (t : List ℕ) (m : Checkpoint) (row 
   pub high : row ≤ b .rows
 
 -- a node was opened at a mark: the rule's rows, and what a second opening there lives on
-pub record Opened (b : GreenNodeBuilder) (t : List ℕ) (kind : ℕ) (m : Checkpoint) (r : GreenNodeBuilder) (v : List ℕ) : Type 0 where
-  pub is : startedAt kind (markOf m) (rowsOf b t) ≡ rowsOf r v
+pub record Opened (b : GreenNodeBuilder) (t : List ℕ) (place kind : ℕ) (m : Checkpoint) (r : GreenNodeBuilder) (v : List ℕ) : Type 0 where
+  pub is : startedAt place kind (markOf m) (rowsOf b t) ≡ rowsOf r v
   pub rest : drop (r .rows * Limits.treeWidth) v ≡ drop (r .rows * Limits.treeWidth) t
   pub rows : r .rows ≡ b .rows + 1
   pub leaves : r .leaves ≡ b .leaves

@@ -1,5 +1,6 @@
 // Rows of a tree into a lent buffer, in the manner of rowan's GreenNodeBuilder: its numbers go in and come back by value, beside the buffer.
-// Each operation is handed the place, the first token not wholly read, and a refused one changes nothing.
+// Each operation is handed the place, the first token not wholly read. A row has it as its fifth number, but that a leaf has its own token. A refused
+// operation changes nothing.
 ghost use mathlib.Core.Path.{_≡_};
 ghost use Prim.Native.Nat.{_+_, _*_, _^_, _≤_, _<_};
 ghost use mathlib.Core.List.{[]};
@@ -83,15 +84,23 @@ impl GreenNodeBuilder {
     }
 
     // A leaf of the innermost open node. Here and below the new numbers are written field by field: a copy that is changed would go through memory.
-    pub fn token(self, tree: &mut [u32], place: usize, kind: u32, start: u32, size: u32) -> Built
+    pub fn token(
+        self,
+        tree: &mut [u32],
+        place: u32,
+        token: u32,
+        kind: u32,
+        start: u32,
+        size: u32,
+    ) -> Built
         requires { ⌜ Fits self (now tree) ⌝ }
-        ensures { λ r. ⌜ Goes (λ n. flat.leaf n place kind start size) self tree r ⌝ }
+        ensures { λ r. ⌜ Goes (λ n. flat.leaf n place (record { token = token; kind = kind; start = start; size = size })) self tree r ⌝ }
     {
         let rows = self.rows;
         if tree.len() / Limits::TREE_WIDTH <= rows {
-            return Built::Refused(Refusal::NO_ROOM, place);
+            return Built::Refused(Refusal::NO_ROOM, place as usize);
         }
-        put(tree, rows, Tag::LEAF, kind, start, size);
+        put(tree, rows, Tag::LEAF, kind, start, size, token);
         Built::Went(GreenNodeBuilder {
             rows: rows + 1,
             leaves: self.leaves + 1,
@@ -103,18 +112,18 @@ impl GreenNodeBuilder {
     }
 
     // A node that begins here: what comes next is its first child.
-    pub fn start_node(self, tree: &mut [u32], place: usize, kind: u32) -> Built
+    pub fn start_node(self, tree: &mut [u32], place: u32, kind: u32) -> Built
         requires { ⌜ Fits self (now tree) ⌝ }
         ensures { λ r. ⌜ Goes (λ n. flat.start n place kind) self tree r ⌝ }
     {
         if Limits::NODES <= self.depth {
-            return Built::Refused(Refusal::TOO_MANY_OPEN, place);
+            return Built::Refused(Refusal::TOO_MANY_OPEN, place as usize);
         }
         let rows = self.rows;
         if tree.len() / Limits::TREE_WIDTH <= rows {
-            return Built::Refused(Refusal::NO_ROOM, place);
+            return Built::Refused(Refusal::NO_ROOM, place as usize);
         }
-        put(tree, rows, Tag::START, kind, 0, 0);
+        put(tree, rows, Tag::START, kind, 0, 0, place);
         Built::Went(GreenNodeBuilder {
             rows: rows + 1,
             leaves: self.leaves,
@@ -126,15 +135,15 @@ impl GreenNodeBuilder {
     }
 
     // The innermost open node ends here and is one finished child of its parent, whose frame is handed back.
-    pub fn finish_node(self, tree: &mut [u32], place: usize, kind: u32, parent: Frame) -> Built
+    pub fn finish_node(self, tree: &mut [u32], place: u32, kind: u32, parent: Frame) -> Built
         requires { ⌜ Fits self (now tree) × Within self ⌝ }
         ensures { λ r. ⌜ Goes (λ n. flat.finish n place kind (frameOf parent)) self tree r ⌝ }
     {
         let rows = self.rows;
         if tree.len() / Limits::TREE_WIDTH <= rows {
-            return Built::Refused(Refusal::NO_ROOM, place);
+            return Built::Refused(Refusal::NO_ROOM, place as usize);
         }
-        put(tree, rows, Tag::FINISH, kind, 0, 0);
+        put(tree, rows, Tag::FINISH, kind, 0, 0, place);
         Built::Went(GreenNodeBuilder {
             rows: rows + 1,
             leaves: self.leaves,
@@ -158,14 +167,14 @@ impl GreenNodeBuilder {
     }
 
     // A node begins at an earlier mark, where nothing refuses it: the rows from there on are lent on and move down.
-    fn open_at(self, tree: &mut [u32], kind: u32, at: Checkpoint) -> GreenNodeBuilder
+    fn open_at(self, tree: &mut [u32], place: u32, kind: u32, at: Checkpoint) -> GreenNodeBuilder
         requires { ⌜ Within self × Inside at self × (self .rows * treeWidth + treeWidth ≤ length (now tree)) × (self .depth < nodes) ⌝ }
-        ensures { λ r. ⌜ Opened self (now (tree .entry)) kind at r (now (tree .exit)) ⌝ }
+        ensures { λ r. ⌜ Opened self (now (tree .entry)) place kind at r (now (tree .exit)) ⌝ }
     {
         let start = self.start_row(at);
         let from = start * Limits::TREE_WIDTH;
         let to = self.rows * Limits::TREE_WIDTH + Limits::TREE_WIDTH;
-        insert_start(&mut tree[from..to], kind);
+        insert_start(&mut tree[from..to], kind, place);
         let mut next = self;
         next.rows = self.rows + 1;
         next.depth = self.depth + 1;
@@ -176,29 +185,29 @@ impl GreenNodeBuilder {
 
     // A wrap: a node begins at an earlier mark and stays open, and an argument inside it is closed around what stood there.
     //   a_b   the `_` wraps the text: Attach[Arg[Text a] ..
-    pub fn wrap(self, tree: &mut [u32], place: usize, kind: u32, at: Checkpoint) -> Built
+    pub fn wrap(self, tree: &mut [u32], place: u32, kind: u32, at: Checkpoint) -> Built
         requires { ⌜ Fits self (now tree) × Within self × Inside at self ⌝ }
         ensures { λ r. ⌜ Goes (λ n. flat.wrap n place kind (markOf at)) self tree r ⌝ }
     {
         if at.children < self.first {
-            return Built::Refused(Refusal::MARK_BEFORE_NODE, place);
+            return Built::Refused(Refusal::MARK_BEFORE_NODE, place as usize);
         }
         if Limits::NODES <= self.depth {
-            return Built::Refused(Refusal::TOO_MANY_OPEN, place);
+            return Built::Refused(Refusal::TOO_MANY_OPEN, place as usize);
         }
         let room = tree.len() / Limits::TREE_WIDTH;
         if room <= self.rows {
-            return Built::Refused(Refusal::NO_ROOM, place);
+            return Built::Refused(Refusal::NO_ROOM, place as usize);
         }
         // The argument's own opening is judged by itself.
         if Limits::NODES <= self.depth + 1 {
-            return Built::Refused(Refusal::TOO_MANY_OPEN, place);
+            return Built::Refused(Refusal::TOO_MANY_OPEN, place as usize);
         }
         if room <= self.rows + 2 {
-            return Built::Refused(Refusal::NO_ROOM, place);
+            return Built::Refused(Refusal::NO_ROOM, place as usize);
         }
-        let outer = self.open_at(tree, kind, at);
-        let inner = outer.open_at(tree, SyntaxKind::CLAUSE_ARGUMENT, at);
+        let outer = self.open_at(tree, place, kind, at);
+        let inner = outer.open_at(tree, place, SyntaxKind::CLAUSE_ARGUMENT, at);
         inner.finish_node(tree, place, SyntaxKind::CLAUSE_ARGUMENT, outer.frame())
     }
 }

@@ -4,21 +4,22 @@ ghost use Prim.Native.Nat.{_+_, _*_, _-_, _≤_};
 ghost use mathlib.Core.List.{[], _∷_, _++_};
 ghost use lib.ListN.{length, take};
 ghost use Rattle.rules.specs.Limits.{treeWidth};
-ghost use Rattle.rules.specs.Flat.{startRow};
+ghost use Rattle.rules.specs.Flat.{withToken, startRow};
 ghost use Rattle.builder.specs.Contract.{written};
 use syntax::Limits;
 use syntax::Tag;
 
 // A row is written over what stands there.
-pub fn put(tree: &mut [u32], row: usize, tag: u32, kind: u32, start: u32, size: u32)
+pub fn put(tree: &mut [u32], row: usize, tag: u32, kind: u32, start: u32, size: u32, token: u32)
     requires { ⌜ row * treeWidth + treeWidth ≤ length (now tree) ⌝ }
-    ensures { λ _. ⌜ now (tree .exit) ≡ written treeWidth row (tag ∷ kind ∷ start ∷ size ∷ []) (now (tree .entry)) ⌝ }
+    ensures { λ _. ⌜ now (tree .exit) ≡ written treeWidth row (tag ∷ kind ∷ start ∷ size ∷ token ∷ []) (now (tree .entry)) ⌝ }
 {
     let at = row * Limits::TREE_WIDTH;
     tree[at] = tag;
     tree[at + 1] = kind;
     tree[at + 2] = start;
     tree[at + 3] = size;
+    tree[at + 4] = token;
 }
 
 // All but the last `by` numbers move down by so many; the first `by` stay.
@@ -34,10 +35,10 @@ fn shift(part: &mut [u32], by: usize)
 }
 
 // A start row goes in front of the rows of a part, whose last row's place is free.
-pub fn insert_start(part: &mut [u32], kind: u32)
+pub fn insert_start(part: &mut [u32], kind: u32, place: u32)
     requires { ⌜ treeWidth ≤ length (now part) ⌝ }
-    ensures { λ _. ⌜ now (part .exit) ≡ startRow kind ++ take (length (now (part .entry)) - treeWidth) (now (part .entry)) ⌝ }
+    ensures { λ _. ⌜ now (part .exit) ≡ withToken place (startRow kind) ++ take (length (now (part .entry)) - treeWidth) (now (part .entry)) ⌝ }
 {
     shift(part, Limits::TREE_WIDTH);
-    put(part, 0, Tag::START, kind, 0, 0);
+    put(part, 0, Tag::START, kind, 0, 0, place);
 }

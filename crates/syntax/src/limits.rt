@@ -26,7 +26,7 @@ impl Limits {
 
     pub const STATE_WIDTH: usize = 3;
 
-    pub const TREE_WIDTH: usize = 4;
+    pub const TREE_WIDTH: usize = 5;
 
     pub const DROPPED_WIDTH: usize = 3;
 

@@ -15,7 +15,7 @@ returns : tie.Need-returns
 returns c =
     let put-in = inserted c in
     let found = placed put-in in
-    opened _ _ _ _ _ _ (found .start-row .ensures) (found .before .before .pre .2) (put-in .insert-start .ensures)
+    opened _ _ _ _ _ _ _ (found .start-row .ensures) (found .before .before .pre .2) (put-in .insert-start .ensures)
 
 pub open-at-spec : {M : Type 1} → statement M
 open-at-spec =

@@ -92,7 +92,7 @@ returns-6 c =
     let second = inner framed in
     let first = outer (second .before) in
     wrapped (judged (first .before .before)) (first .open-at .ensures) (first .open-at .kept .1 .0) (second .open-at2 .ensures)
-    (second .open-at2 .kept .1 .0) _ (ap frameOf (framed .frame .ensures)) (closed .finish-node .ensures)
+    (second .open-at2 .kept .1 .0) (ap frameOf (framed .frame .ensures)) (closed .finish-node .ensures)
 
 pub wrap-spec : {M : Type 1} → statement M
 wrap-spec =

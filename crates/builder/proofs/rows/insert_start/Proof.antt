@@ -1,6 +1,6 @@
 -- `rows::insert_start` meets its contract: the rows moved down, and the new one stands over what stayed. Assumes nothing.
 use borrow.Author.Needs.{needs}
-use Rattle.rules.specs.Flat.{startRow}
+use Rattle.rules.specs.Flat.{withToken, startRow}
 use Rattle.rules.specs.Limits.{treeWidth}
 use Rattle.builder.proofs.Numbers.{in-front}
 use Rattle.builder.proofs.rows.insert_start.Statement.{statement}
@@ -18,7 +18,7 @@ returns c =
     let stored = c .before .before in
     let shifted = moved stored in
     let x = entry shifted .args in
-    in-front (x .part .now) (shifted .shift .last .0) _ (startRow (x .kind)) treeWidth (entry shifted .pre) (shifted .shift .ensures)
+    in-front (x .part .now) (shifted .shift .last .0) _ (withToken (x .place) (startRow (x .kind))) treeWidth (entry shifted .pre) (shifted .shift .ensures)
     (stored .put .ensures)
 
 pub insert-start-spec : {M : Type 1} → statement M
