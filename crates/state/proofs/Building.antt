@@ -2,9 +2,10 @@
 -- numbers is what a routine lives on. Assumes nothing.
 use mathlib.Core.Path.{_≡_, refl, _∙_}
 use mathlib.Core.List.{List}
-use Prim.Native.Nat.{ℕ, _*_, _≤_}
+use Prim.Native.Nat.{ℕ, _*_, _%_, _^_, _≤_}
 use native.Mathlib.Omega.{arith}
 use lib.ListN.{length, drop}
+use Rattle.rules.specs.Limits.{tokens, treeWidth}
 use Rattle.rules.specs.Outcome.{Out, went, bind}
 use Rattle.rules.specs.Flat as flat
 use Rattle.rules.specs.Position as spec
@@ -25,6 +26,25 @@ use Rattle.state.specs.declared.KeptMark.{KeptMark}
 use Rattle.state.specs.declared.Parser.{Parser}
 use Rattle.state.specs.declared.Step.{Step}
 use Rattle.state.proofs.Walk.{passing}
+
+-- ---- a token in 32 bits
+
+pub few-tokens : {t : Tables} {p : Parser} {m : Buffers} → Steady t p m → p .lexer .token ≤ tokens
+few-tokens s =
+    let token = s .token in
+    let few = s .good .few in
+    omega arith
+
+-- 32 bits of it are all of it
+all-bits : {token number : ℕ} → token ≤ tokens → number ≡ token % 2 ^ 32 → number ≡ token
+all-bits few e = omega arith
+
+-- so what the builder did with them it did with the token
+pub for-token : (want : ℕ → ℕ → Out flat.Rows) {t v : List ℕ} {x : Built} {token number : ℕ} → token ≤ tokens → number ≡ token % 2 ^ 32
+    → told.Did (want number) t x v → told.Did (want token) t x v
+for-token want few e did = rw (all-bits few e) at did
+
+-- ---- what is left good
 
 -- a mark is good for more rows too
 pub mark-more : (m : KeptMark) (b u : GreenNodeBuilder) → b .rows ≤ u .rows → MarkOk m b → MarkOk m u
@@ -73,7 +93,7 @@ module _ (p : Parser) (t v notes : List ℕ) where
   built-told {Q} {r} {x} rule o e is same f =
       rw e (record { is = same ∙ outcome o x is; gone = goes Q x f })
 
-  pub on-the-way : {tables : Tables} (u : GreenNodeBuilder) → length v ≡ length t → drop (u .rows * 4) v ≡ drop (u .rows * 4) t
+  pub on-the-way : {tables : Tables} (u : GreenNodeBuilder) → length v ≡ length t → drop (u .rows * treeWidth) v ≡ drop (u .rows * treeWidth) t
       → p .builder .rows ≤ u .rows → u .leaves ≡ p .builder .leaves
       → Passed tables 0 p before (rebuilt p u) after
   on-the-way u long rest more leaves = passing rest refl long refl (omega arith)

@@ -226,11 +226,13 @@ abbrev pub Goes : (Tables → Type 0) → Moments → Moments → Parser → Ste
 Goes sees tree dropped p r gain rule =
     Ran sees gain rule p (buffers (tree .entry .now) (dropped .entry .now)) r (buffers (tree .exit .now) (dropped .exit .now))
 
--- a leaf, whatever its token is
-abbrev pub Leafs : Moments → Parser → Step → (ℕ → Leaf) → Type 0
+-- a leaf of a token that was passed or is next, where there are no more tokens than may be
+abbrev pub Leafs : Moments → Parser → Step → Leaf → Type 0
 Leafs tree p r leaf =
-    (notes : List ℕ) (token : ℕ)
-    → Told (λ n. position.leaf (flat n) (leaf token)) (λ q. Leafed p (tree .entry .now) q (tree .exit .now))
+    (notes : List ℕ)
+    → leaf .token ≤ p .lexer .token
+    → p .lexer .token ≤ tokens
+    → Told (λ n. position.leaf (flat n) leaf) (λ q. Leafed p (tree .entry .now) q (tree .exit .now))
     p (buffers (tree .entry .now) notes) r (buffers (tree .exit .now) notes)
 
 -- a node's start

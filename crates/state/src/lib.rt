@@ -1,5 +1,6 @@
 // The parser's state, which goes in and comes back by value beside the lent slices, and the builder's operations on it.
 ghost use mathlib.Core.Path.{_≡_};
+ghost use Prim.Native.Nat.{_%_, _^_};
 ghost use Rattle.rules.specs.Flat.{flat};
 ghost use Rattle.rules.specs.Position as spec;
 ghost use Rattle.syntax.specs.ParseScope.{numberOf, scopeAt, scopeOf};
@@ -95,6 +96,16 @@ impl ListState {
             last: Mark::Nothing.kept(),
         }
     }
+}
+
+// How many numbers 32 bits count.
+const NUMBERS: usize = 0x1_0000_0000;
+
+// A token's number as a row keeps it, in 32 bits. They are enough: tables with more tokens are refused before reading.
+fn number(token: usize) -> u32
+    ensures { λ r. ⌜ r ≡ token % 2 ^ 32 ⌝ }
+{
+    (token % NUMBERS) as u32
 }
 
 // What is read, the first held token, the list that is read, the builder's numbers, and how many rows are dropped.
@@ -238,12 +249,22 @@ impl Parser {
 
     // ---- the builder's operations, at the place of the first token not wholly read
 
+    // A leaf of the next token.
     pub fn leaf(self, tree: &mut [u32], kind: u32, start: u32, size: u32) -> Step
         requires { ⌜ Fits (self .builder) (now tree) ⌝ }
-        ensures { λ r. ⌜ Leafs tree self r (λ token. record { token = token; kind = kind; start = start; size = size }) ⌝ }
+        ensures { λ r. ⌜ Leafs tree self r (record { token = self .lexer .token; kind = kind; start = start; size = size }) ⌝ }
     {
+        self.leaf_of(tree, self.lexer.token, kind, start, size)
+    }
+
+    // A leaf of a token that was passed before.
+    pub fn leaf_of(self, tree: &mut [u32], token: usize, kind: u32, start: u32, size: u32) -> Step
+        requires { ⌜ Fits (self .builder) (now tree) ⌝ }
+        ensures { λ r. ⌜ Leafs tree self r (record { token = token; kind = kind; start = start; size = size }) ⌝ }
+    {
+        let place = number(self.lexer.token);
         let built = self.builder
-            .token(tree, self.lexer.token, kind, start, size);
+            .token(tree, place, number(token), kind, start, size);
         self.building(built)
     }
 
@@ -251,7 +272,8 @@ impl Parser {
         requires { ⌜ Fits (self .builder) (now tree) ⌝ }
         ensures { λ r. ⌜ Starts tree self r (λ n. spec.start (flat n) kind) ⌝ }
     {
-        let built = self.builder.start_node(tree, self.lexer.token, kind);
+        let built = self.builder
+            .start_node(tree, number(self.lexer.token), kind);
         self.building(built)
     }
 
@@ -260,7 +282,7 @@ impl Parser {
         ensures { λ r. ⌜ Finishes tree self parent r (λ n. spec.finish (flat n) kind (shown.frameOf parent)) ⌝ }
     {
         let built = self.builder
-            .finish_node(tree, self.lexer.token, kind, parent);
+            .finish_node(tree, number(self.lexer.token), kind, parent);
         self.building(built)
     }
 
@@ -268,7 +290,7 @@ impl Parser {
         requires { ⌜ Fits (self .builder) (now tree) × Within (self .builder) × Inside at (self .builder) ⌝ }
         ensures { λ r. ⌜ Starts tree self r (λ n. spec.wrap (flat n) kind (shown.markOf at)) ⌝ }
     {
-        let built = self.builder.wrap(tree, self.lexer.token, kind, at);
+        let built = self.builder.wrap(tree, number(self.lexer.token), kind, at);
         self.building(built)
     }
 }

@@ -4,5 +4,8 @@ use Rattle.state.proofs.Parser.wrap.Tie as tie
 abbrev pub returns→wrap : tie.After-building → tie.After-wrap
 returns→wrap c = c .before .before .before
 
+abbrev pub returns→number : tie.After-building → tie.After-number
+returns→number c = c .before .before .before .before
+
 abbrev pub returns→entry : tie.After-building → tie.Start
-returns→entry c = c .before .before .before .before .before .before
+returns→entry c = c .before .before .before .before .before .before .before
