@@ -5,6 +5,7 @@ use mathlib.Core.List.{List, _++_}
 use Prim.Native.Nat.{ℕ, suc, _+_, _*_, _-_, _≤_, _<_}
 use native.Mathlib.Omega.{arith}
 use lib.ListN.{length, take, drop}
+use Rattle.rules.specs.Limits
 use Rattle.rules.specs.Limits.{treeWidth, droppedWidth}
 use Rattle.rules.specs.Outcome.{Out, went, bind}
 use Rattle.rules.specs.Builder.{Leaf}
@@ -217,23 +218,28 @@ module _ (tokens : List ℕ) (p : Parser) (tree : List ℕ) where
       let inside : p .lexer .token ≤ tokenCount tokens = rw (s .seen) at (s .ready .steady .token) in
       omega arith
 
-  -- from q a leaf of these numbers was written, whatever its token is
-  abbrev Wrote : Parser → List ℕ → ℕ → ℕ → ℕ → Step → List ℕ → Type 0
-  Wrote q after kind start size r last =
-      (notes : List ℕ) (token : ℕ)
-      → Told (λ n. position.leaf (flat n) (record { token = token; kind = kind; start = start; size = size })) (λ u. Leafed q after u last)
-      q (with-notes after notes) r (with-notes last notes)
+  -- from q a leaf was written, of a token that was passed
+  abbrev Wrote : Parser → List ℕ → Leaf → Step → List ℕ → Type 0
+  Wrote q after leaf r last =
+      (notes : List ℕ)
+      → leaf .token ≤ q .lexer .token
+      → q .lexer .token ≤ Limits.tokens
+      → Told (λ n. position.leaf (flat n) leaf) (λ u. Leafed q after u last) q (with-notes after notes) r (with-notes last notes)
 
   module _ {after : List ℕ} {q : Parser} {i : ℕ} (far : Extracting after q i) where
-    module _ (more : i < p .lexer .token) {kind start size : ℕ} (kind-is : kind ≡ leafKind (kindAt tokens i)) (start-is : start ≡ startAt tokens i)
+    module _ (more : i < p .lexer .token) (few : p .lexer .token ≤ Limits.tokens) {kind start size : ℕ} (kind-is : kind ≡ leafKind (kindAt tokens i)) (start-is : start ≡ startAt tokens i)
         (size-is : size ≡ lengthAt tokens i) {r : Step} {last : List ℕ}
-        (wrote : Wrote q after kind start size r last) where
+        (wrote : Wrote q after (record { token = i; kind = kind; start = start; size = size }) r last) where
       abbrev this : Leaf
       this = record { token = i; kind = kind; start = start; size = size }
 
       -- it is written, where these are the dropped rows
       abbrev written : List ℕ → Out Here
       written notes = position.leaf (flat (length tree)) this (posOf q (with-notes after notes))
+
+      wrote-this : (notes : List ℕ)
+          → Told (λ n. position.leaf (flat n) this) (λ u. Leafed q after u last) q (with-notes after notes) r (with-notes last notes)
+      wrote-this notes = wrote notes (rw (far .lexer) (omega arith)) (rw (far .lexer) few)
 
       -- one turn of it: a leaf, and then it goes on
       turn : (t : Tables) (notes : List ℕ) → Sees t
@@ -245,11 +251,11 @@ module _ (tokens : List ℕ) (p : Parser) (tree : List ℕ) where
           rw (up, kind-is, start-is, size-is, ← seen)
 
       this-is : (notes : List ℕ) → written notes ≡ outOf r (with-notes last notes)
-      this-is notes = rw (far .long) at (wrote notes i .is)
+      this-is notes = rw (far .long) at (wrote-this notes .is)
 
       pub extracting-goes-on : {z : Parser} → length last ≡ length after → r ≡ Went z → Extracting last z (i + 1)
       extracting-goes-on {z} kept e =
-          let w : Leafed q after z last = rw e at (wrote after i .gone) in
+          let w : Leafed q after z last = rw e at (wrote-this after .gone) in
           let leaves = far .leaves in
           let one = w .leaves in
           let rows = far .rows in

@@ -4,6 +4,7 @@ use mathlib.Core.List.{List}
 use Prim.Native.Nat.{ℕ, _+_, _≤_, _<_}
 use native.Mathlib.Omega.{arith}
 use lib.ListN.{length}
+use Rattle.rules.specs.Limits
 use Rattle.rules.specs.Outcome.{Out, went, bind}
 use Rattle.rules.specs.Flat.{flat}
 use Rattle.rules.specs.Builder.{Leaf}
@@ -103,7 +104,7 @@ pub fine-of : {text tokens tree : List ℕ} {p : Parser} → Somehow (λ t. (t .
 fine-of s = rw (s .seen .0, s .seen .1) at (s .ready .steady .fine)
 
 -- there are few of them
-pub small-token : {tokens tree : List ℕ} {p : Parser} → Somehow (λ t. t .tokens ≡ tokens) p tree → p .lexer .token ≤ 16384
+pub small-token : {tokens tree : List ℕ} {p : Parser} → Somehow (λ t. t .tokens ≡ tokens) p tree → p .lexer .token ≤ Limits.tokens
 small-token s =
     let few = s .ready .steady .good .few in
     let token = s .ready .steady .token in

@@ -55,7 +55,7 @@ pub fn extract_holding_trivia(tokens: &[u32], tree: &mut [u32], p: Parser) -> St
         let kind = SyntaxKind::from_token(cell(tokens, token, Column::KIND));
         let start = cell(tokens, token, Column::START);
         let size = cell(tokens, token, Column::LENGTH);
-        let written = now.leaf(tree, kind, start, size);
+        let written = now.leaf_of(tree, token, kind, start, size);
         let Step::Went(leafed) = written else {
             return written;
         };

@@ -29,18 +29,18 @@ cell-requires-2 c κs = (passed-there _ _ _ (from-token→entry c .pre) (from-to
 cell-requires-3 : tie.Need-cell-requires-3 Inv-loop μ-loop
 cell-requires-3 c κs = (passed-there _ _ _ (cell2→entry c .pre) (cell2→then1 c .if1 .taken), omega arith)
 
-leaf-requires : tie.Need-leaf-requires Inv-loop μ-loop
-leaf-requires c κs = leaf-arg→loop c .loop .inv .fits
+leaf-of-requires : tie.Need-leaf-of-requires Inv-loop μ-loop
+leaf-of-requires c κs = leaf-of-arg→loop c .loop .inv .fits
 
 same-length : tie.Need-same-length Inv-loop μ-loop
-same-length c = told→leaf c .leaf .kept .1 .0 ∙ told→loop c .loop .inv .long
+same-length c = told→leaf-of c .leaf-of .kept .1 .0 ∙ told→loop c .loop .inv .long
 
 returns : tie.Need-returns Inv-loop μ-loop
 returns c =
     let kind = returns→from-token c .from-token .ensures ∙ ap leafKind (returns→cell c .cell .ensures) in
     let extracting = returns→loop c .loop .inv in
-    let leaf = returns→leaf c .leaf .ensures in
-    extracting-stops _ _ _ extracting (returns→then1 c .if1 .taken)
+    let leaf = returns→leaf-of c .leaf-of .ensures in
+    extracting-stops _ _ _ extracting (returns→then1 c .if1 .taken) (small-token (returns→entry c .pre))
     kind (returns→cell2 c .cell2 .ensures) (returns→cell3 c .cell3 .ensures) leaf (c .enum-told .given)
 
 add-token : tie.Need-add-token Inv-loop μ-loop
@@ -50,10 +50,10 @@ loop-again : tie.Need-loop-again Inv-loop μ-loop
 loop-again c =
     let kind = known-told→from-token c .from-token .ensures ∙ ap leafKind (known-told→cell c .cell .ensures) in
     let extracting = known-told→loop c .loop .inv in
-    let leaf = known-told→leaf c .leaf .ensures in
-    extracting-goes-on _ _ _ extracting (known-told→then1 c .if1 .taken)
+    let leaf = known-told→leaf-of c .leaf-of .ensures in
+    extracting-goes-on _ _ _ extracting (known-told→then1 c .if1 .taken) (small-token (known-told→entry c .pre))
     kind (known-told→cell2 c .cell2 .ensures) (known-told→cell3 c .cell3 .ensures) leaf
-    (known-told→leaf c .leaf .kept .1 .0) (known-told→written c .written .given .1)
+    (known-told→leaf-of c .leaf-of .kept .1 .0) (known-told→written c .written .given .1)
 
 same-length-2 : tie.Need-same-length-2 Inv-loop μ-loop
 same-length-2 c = holding-none→loop c .loop .inv .long
@@ -72,7 +72,7 @@ extract-holding-trivia-spec =
     (λ c κs. search needs)
     cell-requires-2
     cell-requires-3
-    leaf-requires
+    leaf-of-requires
     (λ c. search needs)
     (λ c. search needs)
     same-length

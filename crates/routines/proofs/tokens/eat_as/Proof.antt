@@ -2,6 +2,7 @@
 use mathlib.Core.List.{List, []}
 use mathlib.Core.Path.{_≡_, ap, _∙_}
 use Prim.Native.Nat.{ℕ}
+use native.Mathlib.Nat.{le-refl}
 use native.Mathlib.Omega.{arith}
 use borrow.Author.Needs.{needs}
 use Rattle.rules.specs.Builder.{Leaf}
@@ -46,21 +47,23 @@ leaf-is c t seen notes =
 returns : tie.Need-returns
 returns c =
     let wrote = returns→leaf c in
-    leaf-stops (leaf wrote) eaten (leaf-is wrote) (λ notes. wrote .leaf .ensures notes (leaf wrote .token)) (c .enum-told .given)
+    let few = small-token (returns→entry c .pre .1) in
+    leaf-stops (leaf wrote) eaten (leaf-is wrote) (λ notes. wrote .leaf .ensures notes (le-refl _) few) (c .enum-told .given)
 
 eat-requires : tie.Need-eat-requires
 eat-requires c κs =
-    let same = same-lexer (known-told→leaf c .leaf .ensures [] 0) (known-told→written c .written .given .1) in
     let small = small-token (known-told→entry c .pre .1) in
+    let same = same-lexer (known-told→leaf c .leaf .ensures [] (le-refl _) small) (known-told→written c .written .given .1) in
     rw same (omega arith)
 
 returns-2 : tie.Need-returns-2
 returns-2 c =
     let wrote = returns-2→leaf c in
+    let few = small-token (returns-2→entry c .pre .1) in
     let went = returns-2→written c .written .given .1 in
     let moves = returns-2→eat c .eat .ensures in
-    let same = same-lexer (wrote .leaf .ensures [] 0) went in
-    leaf-goes-on (leaf wrote) eaten (leaf-is wrote) (λ notes. wrote .leaf .ensures notes (leaf wrote .token)) _ went (c .with-lexer .ensures) moves
+    let same = same-lexer (wrote .leaf .ensures [] (le-refl _) few) went in
+    leaf-goes-on (leaf wrote) eaten (leaf-is wrote) (λ notes. wrote .leaf .ensures notes (le-refl _) few) _ went (c .with-lexer .ensures) moves
     (wrote .leaf .kept .1 .0)
     (λ t notes seen ready. onward-eaten ready (rw seen (returns-2→entry c .pre .0)) (moves ∙ ap (λ l. eaten (cursorOf l)) same))
 

@@ -2,6 +2,7 @@
 use mathlib.Core.List.{List, []}
 use mathlib.Core.Path.{_≡_, _∙_}
 use Prim.Native.Nat.{ℕ}
+use native.Mathlib.Nat.{le-refl}
 use native.Mathlib.Omega.{arith}
 use borrow.Author.Needs.{needs}
 use Rattle.rules.specs.Characters.{charLength}
@@ -16,7 +17,7 @@ use Rattle.lexer.specs.Reading.{cursorOf}
 use Rattle.lexer.specs.declared.cursor.Lexer.{Lexer}
 use Rattle.state.specs.Contract.{Left-of, buffers}
 use Rattle.state.specs.Stands.{posOf}
-use Rattle.routines.proofs.Leaves.{here-of, seen-less, onward-char, single-char-is, leaf-then, leaf-stops, leaf-goes-on, same-lexer}
+use Rattle.routines.proofs.Leaves.{here-of, small-token, seen-less, onward-char, single-char-is, leaf-then, leaf-stops, leaf-goes-on, same-lexer}
 use Rattle.routines.proofs.tokens.single_char.Statement.{statement}
 use Rattle.routines.proofs.tokens.single_char.Tie as tie
 mod At
@@ -55,12 +56,14 @@ leaf-is c t seen notes =
 returns : tie.Need-returns
 returns c =
     let wrote = returns→leaf c in
-    leaf-stops (leaf wrote) (onto wrote) (leaf-is wrote) (λ notes. wrote .leaf .ensures notes (leaf wrote .token)) (c .enum-told .given)
+    let few = small-token (seen-less (λ t seen. seen .0) (returns→entry c .pre .1)) in
+    leaf-stops (leaf wrote) (onto wrote) (leaf-is wrote) (λ notes. wrote .leaf .ensures notes (le-refl _) few) (c .enum-told .given)
 
 consume-utf8-bytes-requires : tie.Need-consume-utf8-bytes-requires
 consume-utf8-bytes-requires c κs =
     let pre = known-told→entry c .pre in
-    rw (same-lexer (known-told→leaf c .leaf .ensures [] 0) (known-told→written c .written .given .1))
+    let few = small-token (seen-less (λ t seen. seen .0) (pre .1)) in
+    rw (same-lexer (known-told→leaf c .leaf .ensures [] (le-refl _) few) (known-told→written c .written .given .1))
     (here-of (seen-less (λ t seen. seen .0) (pre .1)) (pre .0 .0))
 
 -- the code counts in what it was handed, the rule in its tables
@@ -73,14 +76,15 @@ counted t tokens word was is size same seen word-is size-is = rw (same, seen, �
 returns-2 : tie.Need-returns-2
 returns-2 c =
     let wrote = returns-2→leaf c in
+    let few = small-token (seen-less (λ t seen. seen .0) (returns-2→entry c .pre .1)) in
     let given = returns-2→entry c .args in
     let pre = returns-2→entry c .pre .0 in
     let size = returns-2→char-len c .char-len in
     let went = returns-2→written c .written .given .1 in
     let inside = returns-2→written c .written .given .0 .0 .lexer in
     let moves = returns-2→consume-utf8-bytes c .consume-utf8-bytes .ensures in
-    let same = same-lexer (wrote .leaf .ensures [] 0) went in
-    leaf-goes-on (leaf wrote) (onto wrote) (leaf-is wrote) (λ notes. wrote .leaf .ensures notes (leaf wrote .token)) _ went
+    let same = same-lexer (wrote .leaf .ensures [] (le-refl _) few) went in
+    leaf-goes-on (leaf wrote) (onto wrote) (leaf-is wrote) (λ notes. wrote .leaf .ensures notes (le-refl _) few) _ went
     (c .with-lexer .ensures) moves (wrote .leaf .kept .1 .0)
     (λ t notes seen ready. onward-char ready (rw (seen .0) (pre .0)) (rw (seen .0) (pre .1))
     (moves ∙ counted t (given .tokens .now) (given .word .now) (given .p .lexer) inside (size .result) same (seen .0) (seen .1) (size .ensures)))

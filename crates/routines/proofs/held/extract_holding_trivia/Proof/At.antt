@@ -20,14 +20,14 @@ module _ {Inv : tie.InvT-loop} {μ : tie.MeasureT-loop} where
   abbrev pub cell2→entry : tie.After-cell2 Inv μ → tie.Start Inv μ
   cell2→entry c = then1→entry (cell2→then1 c)
 
-  abbrev pub leaf-arg→loop : tie.After-leaf-arg Inv μ → tie.At-loop Inv μ
-  leaf-arg→loop c = c .before .before .before .before .before .before .before
+  abbrev pub leaf-of-arg→loop : tie.After-leaf-of-arg Inv μ → tie.At-loop Inv μ
+  leaf-of-arg→loop c = c .before .before .before .before .before .before .before
 
   abbrev pub known-told→written : tie.After-known-told Inv μ → tie.After-written Inv μ
   known-told→written c = c .before
 
-  abbrev pub known-told→leaf : tie.After-known-told Inv μ → tie.After-leaf Inv μ
-  known-told→leaf c = c .before .before .before .before .before
+  abbrev pub known-told→leaf-of : tie.After-known-told Inv μ → tie.After-leaf-of Inv μ
+  known-told→leaf-of c = c .before .before .before .before .before
 
   abbrev pub known-told→cell3 : tie.After-known-told Inv μ → tie.After-cell3 Inv μ
   known-told→cell3 c = c .before .before .before .before .before .before .before
@@ -50,11 +50,11 @@ module _ {Inv : tie.InvT-loop} {μ : tie.MeasureT-loop} where
   abbrev pub known-told→entry : tie.After-known-told Inv μ → tie.Start Inv μ
   known-told→entry c = then1→entry (known-told→then1 c)
 
-  abbrev pub told→leaf : tie.After-enum-told Inv μ → tie.After-leaf Inv μ
-  told→leaf c = c .before .before .before .before
+  abbrev pub told→leaf-of : tie.After-enum-told Inv μ → tie.After-leaf-of Inv μ
+  told→leaf-of c = c .before .before .before .before
 
-  abbrev pub returns→leaf : tie.After-enum-told Inv μ → tie.After-leaf Inv μ
-  returns→leaf c = c .before .before .before .before
+  abbrev pub returns→leaf-of : tie.After-enum-told Inv μ → tie.After-leaf-of Inv μ
+  returns→leaf-of c = c .before .before .before .before
 
   abbrev pub returns→cell3 : tie.After-enum-told Inv μ → tie.After-cell3 Inv μ
   returns→cell3 c = c .before .before .before .before .before .before
@@ -76,6 +76,9 @@ module _ {Inv : tie.InvT-loop} {μ : tie.MeasureT-loop} where
 
   abbrev pub returns→loop : tie.After-enum-told Inv μ → tie.At-loop Inv μ
   returns→loop c = c .before .before .before .before .before .before .before .before .before .before .before .before
+
+  abbrev pub returns→entry : tie.After-enum-told Inv μ → tie.Start Inv μ
+  returns→entry c = then1→entry (returns→then1 c)
 
   abbrev pub returns-2→else1 : tie.After-holding-none Inv μ → tie.Else1 Inv μ
   returns-2→else1 c = c .before

@@ -28,6 +28,9 @@ known-told→entry c = leaf→entry (known-told→leaf c)
 abbrev pub returns→leaf : tie.After-enum-told → tie.After-leaf
 returns→leaf c = c .before .before .before .before
 
+abbrev pub returns→entry : tie.After-enum-told → tie.Start
+returns→entry c = leaf→entry (returns→leaf c)
+
 abbrev pub returns-2→eat : tie.After-with-lexer → tie.After-eat
 returns-2→eat c = c .before
 

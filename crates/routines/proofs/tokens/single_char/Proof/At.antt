@@ -31,6 +31,9 @@ known-told→entry c = leaf→entry (known-told→leaf c)
 abbrev pub returns→leaf : tie.After-enum-told → tie.After-leaf
 returns→leaf c = c .before .before .before .before
 
+abbrev pub returns→entry : tie.After-enum-told → tie.Start
+returns→entry c = leaf→entry (returns→leaf c)
+
 abbrev pub returns-2→consume-utf8-bytes : tie.After-with-lexer → tie.After-consume-utf8-bytes
 returns-2→consume-utf8-bytes c = c .before
 
