@@ -136,10 +136,13 @@ more-long : (a : ℕ) (numbers : List ℕ) → length (numbered (a ∷ numbers))
 unfolding numbered
 more-long a numbers = simp length-append (omega arith)
 
+two-long : (word : List ℕ) (a b : ℕ) → a < 2 ^ 32 → b < 2 ^ 32 → length (line word (a ∷ b ∷ [])) ≤ length word + 23
+two-long word a b ha hb = omega (arith, line-long word (a ∷ b ∷ []), more-long a (b ∷ []), one-long b, word-few a ha, word-few b hb)
+
 three-long : (word : List ℕ) (a b c : ℕ) → a < 2 ^ 32 → b < 2 ^ 32 → c < 2 ^ 32 → length (line word (a ∷ b ∷ c ∷ [])) ≤ length word + 34
 three-long word a b c ha hb hc =
-    omega
-    (arith, line-long word (a ∷ b ∷ c ∷ []), more-long a (b ∷ c ∷ []), more-long b (c ∷ []), one-long c, word-few a ha, word-few b hb, word-few c hc)
+    let others = two-long word b c hb hc in
+    omega (arith, line-long word (a ∷ b ∷ c ∷ []), line-long word (b ∷ c ∷ []), more-long a (b ∷ c ∷ []), word-few a ha)
 
 four-long : (word : List ℕ) (a b c d : ℕ) → a < 2 ^ 32 → b < 2 ^ 32 → c < 2 ^ 32 → d < 2 ^ 32
     → length (line word (a ∷ b ∷ c ∷ d ∷ [])) ≤ length word + 45
@@ -159,10 +162,7 @@ tree-line-few tree row depth words low =
     let size = cell Limits.treeWidth tree row 3 in
     let token = cell Limits.treeWidth tree row 4 in
     either (eqb (tagAt tree row) tagStart)
-    (λ start.
-    rw start
-    (omega
-    (arith, line-long (decimal depth) (kind ∷ token ∷ []), more-long kind (token ∷ []), one-long token, word-few kind (words _), word-few token (words _))))
+    (λ start. rw start (omega (arith, two-long (decimal depth) kind token (words _) (words _))))
     (λ other.
     either (eqb (tagAt tree row) tagLeaf)
     (λ leaf. rw (other, leaf) (omega (arith, four-long (decimal depth) kind from size token (words _) (words _) (words _) (words _))))

@@ -47,7 +47,9 @@ four-texts text (row ∷ rows) =
     let same = four-texts text rows in
     let first : (i : ℕ) → i < 4 → getD (four row) i 0 ≡ getD row i 0 = λ i low. getD-take 4 row i 0 low in
     either (eqb (getD row 0 0) tagLeaf)
-    (λ e. rw (first 0 (omega arith), first 2 (omega arith), first 3 (omega arith), e) (ap (λ (l : List (List ℕ)). part text (getD row 2 0) (getD row 3 0) ∷ l) same))
+    (λ e.
+    rw (first 0 (omega arith), first 2 (omega arith), first 3 (omega arith), e)
+    (ap (λ (l : List (List ℕ)). part text (getD row 2 0) (getD row 3 0) ∷ l) same))
     (λ e. rw (first 0 (omega arith), e) same)
 
 -- ---- the parts of a range are the range's text

@@ -64,7 +64,8 @@ unfolding layout
 render-close place p ps cs low =
     let stood = take (p .first) cs in
     let own = drop (p .first) cs in
-    render-more ps stood (nodeOf (p .kind) (p .from) place own) low ∙ sym (append-assoc (render ps stood) (opening p ++ laid own) (withToken place (finishRow (p .kind))))
+    render-more ps stood (nodeOf (p .kind) (p .from) place own) low
+    ∙ sym (append-assoc (render ps stood) (opening p ++ laid own) (withToken place (finishRow (p .kind))))
 
 -- up to the first child of the innermost parent there is nothing of it but its start row
 pub render-first : (p : Parent) (ps : List Parent) (cs : List Tree)

@@ -31,7 +31,8 @@ startRow kind = tagStart ∷ kind ∷ 0 ∷ 0 ∷ []
 abbrev pub finishRow : ℕ → List ℕ
 finishRow kind = tagFinish ∷ kind ∷ 0 ∷ 0 ∷ []
 
--- "Each tree row gets a fifth number: a leaf's own token, and for other rows the first token not wholly read just before the row was made." (02, #101)
+-- 02's #101: "Each tree row gets a fifth number: a leaf's own token, and for other rows the first token not wholly read just before the row was
+-- made."
 abbrev pub withToken : ℕ → List ℕ → List ℕ
 withToken token row = row ++ (token ∷ [])
 

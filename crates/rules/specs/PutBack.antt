@@ -116,7 +116,12 @@ pub data EachToken (tokens : List ℕ) : ℕ → ℕ → List Piece → List (Li
 
 -- a leaf as its row tells it
 abbrev pub pieceAt : List ℕ → ℕ → Piece
-pieceAt tree row = record { start = cell Limits.treeWidth tree row 2; size = cell Limits.treeWidth tree row 3; token = cell Limits.treeWidth tree row 4 }
+pieceAt tree row =
+    record {
+      start = cell Limits.treeWidth tree row 2;
+      size = cell Limits.treeWidth tree row 3;
+      token = cell Limits.treeWidth tree row 4;
+    }
 
 -- a leaf lies inside the range of its token
 pub record InToken (tokens : List ℕ) (l : Piece) : Type 0 where
