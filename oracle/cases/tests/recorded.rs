@@ -5,7 +5,7 @@ use std::collections::BTreeSet;
 use std::path::Path;
 
 use answers::with_deep_stack;
-use cases::{read_list, recorded_list, write_list, Case, Counts, MOST_BYTES, SEED};
+use cases::{read_list, recorded_list, write_list, Case, Counts, FULL_ROOM, MOST_BYTES, SEED};
 use model::Slip;
 use sheet::{Answer, Row, SHEET_BYTES, TREE_ROWS};
 
@@ -37,7 +37,7 @@ fn its_bytes_are_within_their_limits() {
     assert!(bytes.len() <= MOST_BYTES && cases.len() >= 3_000);
     assert!(write_list(&cases) == bytes, "reading and writing again");
     for case in &cases {
-        assert!(case.tables.sheet().len() <= SHEET_BYTES);
+        assert!(case.tables.sheet().len() <= SHEET_BYTES && case.room <= FULL_ROOM);
         assert!(write_list(std::slice::from_ref(case)).len() <= 65_536);
         if let Answer::Accepted { rows, .. } = &case.answer {
             assert!(rows.len() <= TREE_ROWS && rows.len() <= Row::room(case.room as usize));
