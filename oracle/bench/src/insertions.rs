@@ -1,6 +1,6 @@
 //! The rows of a tree as insertions into one Vec, in the order of writing.
 
-use sheet::{Row, FINISH, LEAF, START};
+use sheet::{Row, FINISH, START};
 use tape::Write;
 
 /// A row's numbers.
@@ -28,13 +28,13 @@ pub fn insertions(writes: &[(Write, usize)]) -> Vec<Insertion> {
         match write {
             Write::Start { kind } => {
                 open.push(opened(kind, children.len(), rows));
-                made.push((rows, edge(START, kind.into(), place)));
+                made.push((rows, Row::edge(START, kind.into(), place).numbers()));
             }
             Write::Wrap { kind, mark } => {
                 let row = children.get(mark).copied().unwrap_or(rows);
                 children[mark..].iter_mut().for_each(|first| *first += 1);
                 open.push(opened(kind, mark, row));
-                made.push((row, edge(START, kind.into(), place)));
+                made.push((row, Row::edge(START, kind.into(), place).numbers()));
             }
             Write::Leaf {
                 kind,
@@ -43,14 +43,13 @@ pub fn insertions(writes: &[(Write, usize)]) -> Vec<Insertion> {
                 token,
             } => {
                 children.push(rows);
-                let [start, len, token] = [start, len, token].map(|number| number as u32);
-                made.push((rows, [LEAF, kind.into(), start, len, token]));
+                made.push((rows, Row::leaf(kind.into(), start, len, token).numbers()));
             }
             Write::Finish => {
                 let node = open.pop().expect("an open node");
                 children.truncate(node.first);
                 children.push(node.row);
-                made.push((rows, edge(FINISH, node.kind, place)));
+                made.push((rows, Row::edge(FINISH, node.kind, place).numbers()));
             }
         }
     }
@@ -60,11 +59,6 @@ pub fn insertions(writes: &[(Write, usize)]) -> Vec<Insertion> {
 fn opened(kind: u16, first: usize, row: usize) -> Open {
     let kind = kind.into();
     Open { kind, first, row }
-}
-
-/// The row of a start or a finish.
-fn edge(tag: u32, kind: u32, place: usize) -> Numbers {
-    [tag, kind, 0, 0, place as u32]
 }
 
 /// The plain program: each row goes into the Vec at its place.

@@ -1,17 +1,7 @@
 //! The bytes of a recorded case, as the page beside the list has them.
 
 use cases::{read_list, write_list, Case};
-use sheet::{Answer, Dropped, Row, Tables, FINISH, LEAF, START};
-
-fn row(tag: u32, kind: u32, start: u32, len: u32, token: u32) -> Row {
-    Row {
-        tag,
-        kind,
-        start,
-        len,
-        token,
-    }
-}
+use sheet::{Answer, Dropped, Row, Tables, FINISH, START};
 
 fn case(answer: Answer) -> Case {
     Case {
@@ -35,9 +25,9 @@ fn answer_bytes(case: Case) -> Vec<u8> {
 fn a_row_has_three_bytes_or_seven() {
     let accepted = answer_bytes(case(Answer::Accepted {
         rows: vec![
-            row(START, 44, 0, 0, 0x0506),
-            row(LEAF, 13, 0x0708, 0x090a, 0x0b0c),
-            row(FINISH, 44, 0, 0, 16_384),
+            Row::edge(START, 44, 0x0506),
+            Row::leaf(13, 0x0708, 0x090a, 0x0b0c),
+            Row::edge(FINISH, 44, 16_384),
         ],
         dropped: vec![Dropped {
             token: 0x0d0e,

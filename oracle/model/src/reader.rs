@@ -2,11 +2,11 @@
 
 use std::ops::Range;
 
-use sheet::{Counts, Shape, Tables};
+use sheet::{Counts, Row, Shape, Tables};
 
 use crate::kinds::*;
 use crate::refusal::Step;
-use crate::rows::{Leaf, Mark, Rows};
+use crate::rows::{Mark, Rows};
 use crate::slip::Slip;
 use crate::stops::Scope;
 
@@ -120,12 +120,8 @@ impl<'t, 'b> Reader<'t, 'b> {
 
     fn take(&mut self, kind: u32, len: u32) -> Step {
         let token = self.tables.token(self.at);
-        let leaf = Leaf {
-            kind,
-            start: token.start + self.taken,
-            len,
-            token: self.at,
-        };
+        let start = token.start + self.taken;
+        let leaf = Row::leaf(kind, start as usize, len as usize, self.at);
         self.rows.leaf(leaf, self.at)?;
         self.taken += len;
         if self.taken == token.len {
@@ -166,15 +162,12 @@ impl<'t, 'b> Reader<'t, 'b> {
     pub fn write_held(&mut self) -> Step {
         for index in std::mem::take(&mut self.held) {
             let token = self.tables.token(index);
-            let leaf = Leaf {
-                kind: tree_kind(token.kind),
-                start: token.start,
-                len: token.len,
-                token: match self.slips(Slip::HeldHasPlace) {
-                    true => self.at,
-                    false => index,
-                },
+            let (start, len) = (token.start as usize, token.len as usize);
+            let own = match self.slips(Slip::HeldHasPlace) {
+                true => self.at,
+                false => index,
             };
+            let leaf = Row::leaf(tree_kind(token.kind), start, len, own);
             self.rows.leaf(leaf, self.at)?;
         }
         Ok(())

@@ -16,14 +16,6 @@ pub(crate) struct Mark {
     row: usize,
 }
 
-/// What a leaf holds: the part of the text, and the token that it comes from.
-pub(crate) struct Leaf {
-    pub kind: u32,
-    pub start: u32,
-    pub len: u32,
-    pub token: usize,
-}
-
 struct Node {
     kind: u32,
     /// The count of finished children before its first one.
@@ -94,7 +86,7 @@ impl<'b> Rows<'b> {
         if self.open.len() == OPEN_NODES {
             return refuse(7, place);
         }
-        let start = edge(START, kind, self.token_of_start(kind, mark.row, place));
+        let start = Row::edge(START, kind, self.token_of_start(kind, mark.row, place));
         self.insert(mark.row, start, place)?;
         self.open.push(Node {
             kind,
@@ -126,15 +118,8 @@ impl<'b> Rows<'b> {
     }
 
     /// A leaf has its own token; the place is where a refusal would stand.
-    pub fn leaf(&mut self, leaf: Leaf, place: usize) -> Step {
-        let row = Row {
-            tag: LEAF,
-            kind: leaf.kind,
-            start: leaf.start,
-            len: leaf.len,
-            token: leaf.token as u32,
-        };
-        self.insert(self.rows, row, place)?;
+    pub fn leaf(&mut self, leaf: Row, place: usize) -> Step {
+        self.insert(self.rows, leaf, place)?;
         self.leaves += 1;
         self.children += 1;
         Ok(())
@@ -144,7 +129,7 @@ impl<'b> Rows<'b> {
         let node = self.open.pop().expect("an open node");
         self.children = node.first + 1;
         let token = place + usize::from(self.slip == Some(Slip::FinishHasNext));
-        self.insert(self.rows, edge(FINISH, node.kind, token), place)
+        self.insert(self.rows, Row::edge(FINISH, node.kind, token), place)
     }
 
     pub fn drop(&mut self, token: usize, reason: u32) {
@@ -163,16 +148,5 @@ impl<'b> Rows<'b> {
         self.tree[from..behind].copy_from_slice(&row.numbers());
         self.rows += 1;
         Ok(())
-    }
-}
-
-/// The row of a start or a finish.
-fn edge(tag: u32, kind: u32, token: usize) -> Row {
-    Row {
-        tag,
-        kind,
-        start: 0,
-        len: 0,
-        token: token as u32,
     }
 }

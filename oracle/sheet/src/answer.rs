@@ -82,6 +82,29 @@ impl Row {
         }
     }
 
+    /// The row of a start or a finish.
+    pub fn edge(tag: u32, kind: u32, token: usize) -> Self {
+        Row {
+            tag,
+            kind,
+            start: 0,
+            len: 0,
+            token: token as u32,
+        }
+    }
+
+    /// The row of a leaf.
+    pub fn leaf(kind: u32, start: usize, len: usize, token: usize) -> Self {
+        let [start, len, token] = [start, len, token].map(|number| number as u32);
+        Row {
+            tag: LEAF,
+            kind,
+            start,
+            len,
+            token,
+        }
+    }
+
     pub fn numbers(self) -> [u32; Row::WIDTH] {
         [self.tag, self.kind, self.start, self.len, self.token]
     }

@@ -5,23 +5,13 @@ use sheet::{listing, Answer, Counts, Dropped, Row, FINISH, LEAF, START};
 /// Three rows whose numbers all differ where they may.
 const TREE: [u32; 15] = [START, 44, 0, 0, 7, LEAF, 13, 3, 2, 8, FINISH, 44, 0, 0, 9];
 
-fn row(tag: u32, kind: u32, start: u32, len: u32, token: u32) -> Row {
-    Row {
-        tag,
-        kind,
-        start,
-        len,
-        token,
-    }
-}
-
 #[test]
 fn rows_are_read_and_written_in_one_order() {
     let rows: Vec<Row> = TREE.chunks(Row::WIDTH).map(Row::of).collect();
     let expected = [
-        row(START, 44, 0, 0, 7),
-        row(LEAF, 13, 3, 2, 8),
-        row(FINISH, 44, 0, 0, 9),
+        Row::edge(START, 44, 7),
+        Row::leaf(13, 3, 2, 8),
+        Row::edge(FINISH, 44, 9),
     ];
     assert_eq!(rows, expected);
     let numbers: Vec<u32> = rows.into_iter().flat_map(Row::numbers).collect();
