@@ -1,5 +1,5 @@
-/* Document 01's whole case, `\frac 1 2`, as tables through the C face: the listing that `treelist` prints for it, then each leaf's text, a formula's
- * questions, and refusals. */
+/* Document 01's whole case, `\frac 1 2`, as tables through the C face: the listing that `treelist` prints for it, then each leaf's token and text, a
+ * formula's questions, and refusals. */
 #include <inttypes.h>
 #include <stdio.h>
 #include <string.h>
@@ -34,14 +34,17 @@ static void list(bool accepted, size_t first, size_t second, const uint32_t *tre
     }
 }
 
+/* From what is printed to the source: the last number of a leaf's row is its token. */
 static void leaves(const uint32_t *tree, size_t rows)
 {
     const uint8_t *bytes = (const uint8_t *)text;
+    size_t size = rows * CARTGLAZE_TREE_ROW;
     for (size_t row = 0; row < rows; row++) {
-        if (cartglaze_is_leaf(bytes, strlen(text), tree, rows * 4, row)) {
-            size_t start = cartglaze_leaf_start(bytes, strlen(text), tree, rows * 4, row);
-            size_t length = cartglaze_leaf_length(bytes, strlen(text), tree, rows * 4, row);
-            printf("leaf %zu %.*s\n", row, (int)length, text + start);
+        if (cartglaze_is_leaf(bytes, strlen(text), tree, size, row)) {
+            size_t start = cartglaze_leaf_start(bytes, strlen(text), tree, size, row);
+            size_t length = cartglaze_leaf_length(bytes, strlen(text), tree, size, row);
+            uint32_t token = tree[row * CARTGLAZE_TREE_ROW + CARTGLAZE_TREE_ROW - 1];
+            printf("leaf %zu token %" PRIu32 " %.*s\n", row, token, (int)length, text + start);
         }
     }
 }
@@ -50,14 +53,14 @@ static void leaves(const uint32_t *tree, size_t rows)
 static void formula(void)
 {
     const uint8_t bytes[] = "$$a$$";
-    const uint32_t tree[] = {0, 43, 0, 0, 1, 14, 0, 2, 1, 13, 2, 1, 1, 14, 3, 2, 2, 43, 0, 0};
+    const uint32_t tree[] = {0, 43, 0, 0, 0, 1, 14, 0, 2, 0, 1, 13, 2, 1, 1, 1, 14, 3, 2, 2, 2, 43, 0, 0, 3};
     printf("formula %d %d %d\n", cartglaze_is_display(bytes, 5, tree, COUNT(tree), 0),
            cartglaze_is_inline(bytes, 5, tree, COUNT(tree), 0), cartglaze_is_valid(bytes, 5, tree, COUNT(tree), 0));
 }
 
 int main(void)
 {
-    uint32_t tree[44], dropped[15];
+    uint32_t tree[11 * CARTGLAZE_TREE_ROW], dropped[15];
     size_t first, second;
 
     if (!run(tree, COUNT(tree), dropped, &first, &second)) {

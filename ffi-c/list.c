@@ -6,8 +6,8 @@
 /* One byte more than a sheet may have, so that a longer one is seen to be longer. */
 static uint8_t sheet[32769];
 static uint32_t numbers[CARTGLAZE_SHEET_NUMBERS];
-/* 4,096 tree rows, a dropped row for each token that a sheet has room for, and more bytes than the lines of so many rows have. */
-static uint32_t tree[4096 * 4];
+/* 3,276 tree rows, a dropped row for each token that a sheet has room for, and more bytes than the lines of so many rows have. */
+static uint32_t tree[3276 * CARTGLAZE_TREE_ROW];
 static uint32_t dropped[CARTGLAZE_SHEET_NUMBERS / 4 * 3];
 static uint8_t lines[262144];
 

@@ -20,8 +20,11 @@
  *   shapes  class, form, value                                 at most 4,096
  *   states  the next state for t, b, p, or 0                   at most 4,096
  * Rows that come back:
- *   tree     tag (0 start, 1 leaf, 2 finish), kind, start, length
+ *   tree     tag (0 start, 1 leaf, 2 finish), kind, start, length, token
  *   dropped  token, reason (1 trivia, 2 opener, 3 closer), leaves written before it
+ * A token is named by its row among the tokens, counted from 0. The token of a tree row leads from what is printed to the source: a leaf has its own
+ * token; a start or a finish has the first token that was not wholly read just before the row was made, the token count at the end. Start and length
+ * are 0 unless the row is a leaf.
  */
 #ifndef CARTGLAZE_H
 #define CARTGLAZE_H
@@ -33,6 +36,10 @@
 #ifdef __cplusplus
 extern "C" {
 #endif
+
+/* So many numbers make a tree row. A tree buffer is so many rows: its length divided by this, rounded down. What is left over behind the last whole
+ * row is no row. */
+#define CARTGLAZE_TREE_ROW 5
 
 /* The whole run. It always returns, and says whether it accepts.
  *
@@ -58,8 +65,8 @@ bool cartglaze_run(const uint8_t *text, size_t text_length,
                    uint32_t *dropped, size_t dropped_length,
                    size_t *first, size_t *second);
 
-/* Questions about row `row` of tree rows, for any numbers in their place and any row. No unless the row starts a formula (kind 43) that has its
- * matching finish, and the tokens that are asked about lie inside the text. */
+/* Questions about row `row` of tree rows, for any numbers in their place and any row. None looks at a row's last number. No unless the row starts a
+ * formula (kind 43) that has its matching finish, and the tokens that are asked about lie inside the text. */
 
 /* Whether its first token is `$$` or `\[`. */
 bool cartglaze_is_display(const uint8_t *text, size_t text_length, const uint32_t *tree, size_t tree_length, size_t row);
@@ -103,9 +110,9 @@ bool cartglaze_read(const uint8_t *sheet, size_t sheet_length, uint32_t *numbers
  * True: they stand at the beginning of `out`, *length bytes; every later byte is as it was.
  * False: `out` is as it was, and they would have *length bytes (from 2^64 - 1 on, that number).
  *
- * Accepted, `ok ROWS DROPPED`; then for each start or leaf among the tree rows its depth and kind, and a leaf's start and length; then `d` and the
- * three numbers of each dropped row. Refused, `refused NUMBER PLACE` alone. Any numbers are taken: rows that a buffer does not have are left out, a
- * tag over 2 has no line, a finish where nothing is open leaves the depth at 0, and a number of refusal over 2^32 - 1 counts for that.
+ * Accepted, `ok ROWS DROPPED`; then for each start or leaf among the tree rows its depth and kind, a leaf's start and length, and its token; then
+ * `d` and the three numbers of each dropped row. Refused, `refused NUMBER PLACE` alone. Any numbers are taken: rows that a buffer does not have are
+ * left out, a tag over 2 has no line, a finish where nothing is open leaves the depth at 0, and a number of refusal over 2^32 - 1 counts for that.
  *
  * The same answer, rows and length of `out` always give the same result. */
 bool cartglaze_list(bool accepted, size_t first, size_t second, const uint32_t *tree, size_t tree_length,

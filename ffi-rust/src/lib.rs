@@ -70,6 +70,11 @@ pub struct Tables<'a> {
     pub states: &'a [u32],
 }
 
+/// So many numbers make a row of the tree: tag (0 start, 1 leaf, 2 finish), kind, start, length, token. Start and length are 0 unless it is a leaf.
+/// The token is named by its row among the tokens. A leaf has its own token; a start or a finish has the first token that was not wholly read just
+/// before the row was made, the token count at the end. A tree buffer has room for its length / `TREE_ROW` rows, rounded down.
+pub const TREE_ROW: usize = 5;
+
 /// What a run comes to.
 #[derive(Clone, Copy, Debug, PartialEq, Eq)]
 pub enum Answer {
@@ -89,7 +94,7 @@ pub enum Answer {
     },
 }
 
-/// The whole run.
+/// The whole run. Tree rows have [`TREE_ROW`] numbers each, dropped rows 3.
 pub fn run(tables: Tables, tree: &mut [u32], dropped: &mut [u32]) -> Answer {
     let Tables { text, tokens, shapes, states } = tables;
     let (mut first, mut second) = (0, 0);
@@ -119,7 +124,7 @@ pub fn run(tables: Tables, tree: &mut [u32], dropped: &mut [u32]) -> Answer {
     }
 }
 
-/// A question about a row of tree rows.
+/// A question about a row of tree rows, which are read [`TREE_ROW`] numbers a row; what is left over behind the last whole one is no row.
 macro_rules! question {
     ($(#[$doc:meta])* $visible:vis $name:ident, $raw:ident, $answer:ty) => {
         $(#[$doc])*

@@ -1,5 +1,5 @@
 //! The recorded list through the static library, and the questions.
-use cartglaze::{is_display, is_inline, is_leaf, is_valid, leaf_text, run, Answer, Tables};
+use cartglaze::{is_display, is_inline, is_leaf, is_valid, leaf_text, run, Answer, Tables, TREE_ROW};
 
 /// Big-endian numbers out of bytes, from a place on.
 struct Bytes<'a>(&'a [u8]);
@@ -33,14 +33,15 @@ impl<'a> Bytes<'a> {
 /// What the buffers hold before a run, so that what is not written can be told.
 const BEFORE: u32 = u32::MAX;
 
-/// A recorded row of the tree: tag and kind in a byte, a leaf's start and length in two each.
-fn tree_row(case: &mut Bytes) -> [u32; 4] {
+/// A recorded row of the tree: tag and kind in a byte, the token in two, a leaf's start and length in two each.
+fn tree_row(case: &mut Bytes) -> [u32; TREE_ROW] {
     let mark = case.number(1);
     let (tag, kind) = (mark / 64, mark % 64);
+    let token = case.number(2);
     if tag == 1 {
-        [tag, kind, case.number(2), case.number(2)]
+        [tag, kind, case.number(2), case.number(2), token]
     } else {
-        [tag, kind, 0, 0]
+        [tag, kind, 0, 0, token]
     }
 }
 
@@ -83,21 +84,40 @@ fn recorded_list() {
         differences += usize::from(!agrees(Bytes(list.section())));
     }
     println!("{cases} cases, {differences} differences");
-    assert_eq!((cases, differences), (10_790, 0));
+    assert_eq!((cases, differences), (12_236, 0));
 }
 
 #[test]
 fn nothing_is_a_root() {
-    let mut tree = [7; 8];
+    let mut tree = [7; 2 * TREE_ROW];
     let answer = run(Tables { text: b"", tokens: &[], shapes: &[], states: &[] }, &mut tree, &mut []);
     assert_eq!(answer, Answer::Accepted { rows: 2, dropped: 0 });
-    assert_eq!(tree, [0, 44, 0, 0, 2, 44, 0, 0]);
+    assert_eq!(tree, [0, 44, 0, 0, 0, 2, 44, 0, 0, 0]);
+}
+
+/// The token of each row of an accepted run.
+fn tokens_of(tables: Tables) -> Vec<u32> {
+    let mut tree = [7; 20 * TREE_ROW];
+    let mut dropped = [0; 20];
+    let Answer::Accepted { rows, .. } = run(tables, &mut tree, &mut dropped) else { panic!("refused") };
+    tree.chunks(TREE_ROW).take(rows).map(|row| row[TREE_ROW - 1]).collect()
+}
+
+/// A leaf has its own token, another row the first one not wholly read: `x\o y` wraps at token 1, and in `\f x &` blank 3 is left behind its command.
+#[test]
+fn tokens_of_rows() {
+    let infix = Tables { text: br"x\o y", tokens: &[21, 0, 1, 0, 26, 1, 2, 1, 1, 3, 1, 0, 21, 4, 1, 0], shapes: &[1, 6, 0], states: &[] };
+    assert_eq!(tokens_of(infix), [0, 1, 1, 0, 0, 1, 1, 1, 2, 2, 3, 3, 4, 4, 4, 4]);
+    let held = [26, 0, 2, 1, 1, 2, 1, 0, 21, 3, 1, 0, 1, 4, 1, 0, 12, 5, 1, 0];
+    let held = Tables { text: br"\f x &", tokens: &held, shapes: &[1, 1, 2], states: &[] };
+    assert_eq!(tokens_of(held), [0, 0, 0, 2, 2, 3, 4, 3, 4, 5]);
 }
 
 #[test]
 fn questions() {
     // `$$a$$` and `\(a\)`: a start of kind 43, three leaves, the finish.
-    let tree = |first, last, size| [0, 43, 0, 0, 1, first, 0, size, 1, 13, size, 1, 1, last, size + 1, size, 2, 43, 0, 0];
+    let leaves = |first, last, size| [[1, first, 0, size, 0], [1, 13, size, 1, 1], [1, last, size + 1, size, 2]].concat();
+    let tree = |first, last, size| [&[0, 43, 0, 0, 0][..], &leaves(first, last, size), &[2, 43, 0, 0, 3]].concat();
     let (display, inline) = (tree(14, 14, 2), tree(15, 16, 2));
     assert_eq!((is_display(b"$$a$$", &display, 0), is_inline(b"$$a$$", &display, 0), is_valid(b"$$a$$", &display, 0)), (true, false, true));
     assert_eq!(

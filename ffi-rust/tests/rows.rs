@@ -2,24 +2,27 @@
 #[path = "guarded/numbers.rs"]
 mod numbers;
 
-use cartglaze::{is_display, is_inline, is_leaf, is_valid, leaf_text};
+use cartglaze::{is_display, is_inline, is_leaf, is_valid, leaf_text, TREE_ROW};
 use numbers::Numbers;
 
 /// Two dollars, then the other delimiters, one every two bytes.
 const TEXT: &[u8] = br"$$\(\)\[\]a";
 
-fn rows(tree: &[u32]) -> Vec<[u32; 4]> {
-    tree.chunks_exact(4).map(|row| row.try_into().unwrap()).collect()
+/// A row of the tree.
+type Row = [u32; TREE_ROW];
+
+fn rows(tree: &[u32]) -> Vec<Row> {
+    tree.chunks_exact(TREE_ROW).map(|row| row.try_into().unwrap()).collect()
 }
 
 /// The part of the text that a leaf row names, if it is one and names one.
-fn leaf([tag, _, start, length]: [u32; 4]) -> Option<&'static [u8]> {
+fn leaf([tag, _, start, length, _]: Row) -> Option<&'static [u8]> {
     let end = u64::from(start) + u64::from(length);
     (tag == 1 && end <= TEXT.len() as u64).then(|| &TEXT[start as usize..end as usize])
 }
 
 /// "starts kind 43 and has its matching finish: the first later row where starts and finishes balance, no tag over 2 before it": the rows between.
-fn inside(rows: &[[u32; 4]], row: usize) -> Option<&[[u32; 4]]> {
+fn inside(rows: &[Row], row: usize) -> Option<&[Row]> {
     let behind = &rows[row + 1..];
     let mut open = 1;
     for (at, [tag, ..]) in behind.iter().enumerate() {
@@ -39,17 +42,17 @@ fn inside(rows: &[[u32; 4]], row: usize) -> Option<&[[u32; 4]]> {
 /// A token by its kind and its text, if the row is a leaf inside the text.
 type Token = Option<(u32, &'static [u8])>;
 
-fn token(row: Option<&[u32; 4]>) -> Token {
+fn token(row: Option<&Row>) -> Token {
     row.and_then(|&row| leaf(row).map(|text| (row[1], text)))
 }
 
 /// "First and last token descend into the first and last child; an empty node there gives none": past the starts, and back past the finishes.
-fn tokens(rows: &[[u32; 4]], row: usize) -> (Token, Token) {
+fn tokens(rows: &[Row], row: usize) -> (Token, Token) {
     let between = (row < rows.len()).then(|| inside(rows, row)).flatten().unwrap_or(&[]);
     (token(between.iter().find(|row| row[0] != 0)), token(between.iter().rev().find(|row| row[0] != 2)))
 }
 
-fn expected(rows: &[[u32; 4]], row: usize) -> [bool; 4] {
+fn expected(rows: &[Row], row: usize) -> [bool; 4] {
     let (first, last) = tokens(rows, row);
     let display = matches!(first, Some((14, b"$$") | (15, br"\[")));
     let inline = matches!(first, Some((14, b"$") | (15, br"\(")));
@@ -62,20 +65,25 @@ fn expected(rows: &[[u32; 4]], row: usize) -> [bool; 4] {
     [display, inline, (display || inline) && close == last, is_leaf]
 }
 
-/// A row as formulas have them, and now and then any numbers.
-fn any_row(numbers: &mut Numbers) -> [u32; 4] {
+/// Numbers at which tags, kinds and types end.
+const ENDS: [u32; 8] = [0, 1, 2, 3, 43, 1 << 31, u32::MAX - 1, u32::MAX];
+
+/// A row as formulas have them, and now and then any numbers. No question looks at the token, so that may be any number too.
+fn any_row(numbers: &mut Numbers) -> Row {
+    let mut any = || ENDS[numbers.below(8) as usize];
+    let (token, row) = (any(), [0; TREE_ROW].map(|_| any()));
     if numbers.below(60) == 0 {
-        return [0; 4].map(|_| [0, 1, 2, 3, 43, 1 << 31, u32::MAX - 1, u32::MAX][numbers.below(8) as usize]);
+        return row;
     }
     match numbers.below(6) {
-        0 => [0, 43, 0, 0],
-        1 => [0, 1, 0, 0],
+        0 => [0, 43, 0, 0, token],
+        1 => [0, 1, 0, 0, token],
         2 | 3 => {
             let place = numbers.below(5);
             let kind = if place == 0 { 14 } else { 15 + numbers.below(2) };
-            [1, kind, place * 2, if place == 0 { 1 + numbers.below(2) } else { 2 }]
+            [1, kind, place * 2, if place == 0 { 1 + numbers.below(2) } else { 2 }, token]
         }
-        _ => [2, 43, 0, 0],
+        _ => [2, 43, 0, 0, token],
     }
 }
 
@@ -86,9 +94,9 @@ fn any_rows() {
     for _ in 0..200_000 {
         let mut tree: Vec<u32> = (0..numbers.below(7)).flat_map(|_| any_row(&mut numbers)).collect();
         // What is left over behind the last whole row is no row.
-        tree.extend([0, 43, 0].iter().take(numbers.below(4) as usize));
+        tree.extend([0, 43, 0, 0].iter().take(numbers.below(TREE_ROW as u32) as usize));
         let rows = rows(&tree);
-        for row in (0..=rows.len() + 1).chain([1 << 30, 1 << 32, usize::MAX / 4, usize::MAX / 4 + 1, usize::MAX]) {
+        for row in (0..=rows.len() + 1).chain([1 << 30, 1 << 32, usize::MAX / TREE_ROW, usize::MAX / TREE_ROW + 1, usize::MAX]) {
             let expected = expected(&rows, row);
             let asked = [is_display(TEXT, &tree, row), is_inline(TEXT, &tree, row), is_valid(TEXT, &tree, row), is_leaf(TEXT, &tree, row)];
             assert_eq!(asked, expected, "row {row} of {rows:?}");

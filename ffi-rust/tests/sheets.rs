@@ -1,7 +1,7 @@
 //! Sheets through the library: the samples of examples/, damaged ones, and listings with and without room.
 mod guarded;
 
-use cartglaze::{list, read, Answer, Listed, Sheet, Tables, SHEET_NUMBERS};
+use cartglaze::{list, read, Answer, Listed, Sheet, Tables, SHEET_NUMBERS, TREE_ROW};
 use guarded::{guarded, lend, lend_numbers, refused, BEFORE};
 use std::path::{Path, PathBuf};
 
@@ -61,11 +61,15 @@ fn expected_of(sheet: &[u8]) -> Found {
     }
 }
 
+/// The tree rows and the dropped rows that `treelist` has room for.
+const TREE_ROWS: usize = 3_276;
+const DROPPED_ROWS: usize = 2_048;
+
 /// What `treelist` prints for a sheet, in buffers as large as its own.
 fn printed(sheet: &[u8]) -> Vec<u8> {
     let (answer, tree, dropped) = match read_in(sheet, SHEET_NUMBERS) {
         Found::Read { text, tokens, shapes, states } => {
-            guarded(Tables { text: &text, tokens: &tokens, shapes: &shapes, states: &states }, 16_384, 6_144)
+            guarded(Tables { text: &text, tokens: &tokens, shapes: &shapes, states: &states }, TREE_ROWS * TREE_ROW, DROPPED_ROWS * 3)
         }
         Found::Refused => (refused(9, 0), vec![], vec![]),
         Found::NoRoom(needed) => panic!("{needed} numbers"),
@@ -89,7 +93,7 @@ fn samples() {
         }
     }
     println!("{count} sheets");
-    assert!(count >= 47);
+    assert!(count >= 51);
 }
 
 /// Refusals 5 to 8 by the samples, whose buffers `guarded` holds to zeros.
@@ -99,14 +103,15 @@ fn refused_while_reading() {
         ("greedy-environment.sheet", "refused 5 1\n"),
         ("mark-before-node.sheet", "refused 6 7\n"),
         ("128-braces.sheet", "refused 7 127\n"),
+        ("no-room.sheet", "refused 8 1093\n"),
     ] {
         assert_eq!(String::from_utf8(printed(&sample(name))).unwrap(), line, "{name}");
     }
     let Found::Read { text, tokens, shapes, states } = read_in(&sample("script.sheet"), SHEET_NUMBERS) else { panic!() };
     for room in 0..60 {
         let answer = guarded(Tables { text: &text, tokens: &tokens, shapes: &shapes, states: &states }, room, tokens.len()).0;
-        assert_eq!(matches!(answer, Answer::Accepted { rows: 11, dropped: 0 }), room >= 44, "{room} numbers");
-        assert!(room >= 44 || matches!(answer, Answer::Refused { number: 8, .. }), "{room} numbers");
+        assert_eq!(matches!(answer, Answer::Accepted { rows: 11, dropped: 0 }), room >= 55, "{room} numbers");
+        assert!(room >= 55 || matches!(answer, Answer::Refused { number: 8, .. }), "{room} numbers");
     }
 }
 
@@ -179,8 +184,8 @@ fn listed(answer: Answer, tree: &[u32], dropped: &[u32], room: usize) -> (Listed
 
 #[test]
 fn room_for_lines() {
-    let (tree, dropped) = ([0, 44, 0, 0, 1, 13, 6, 1, 2, 44, 0, 0], [1, 1, 1]);
-    let lines = "ok 3 1\n0 44\n1 13 6 1\nd 1 1 1\n";
+    let (tree, dropped) = ([0, 44, 0, 0, 0, 1, 13, 6, 1, 2, 2, 44, 0, 0, 3], [1, 1, 1]);
+    let lines = "ok 3 1\n0 44 0\n1 13 6 1 2\nd 1 1 1\n";
     let answer = Answer::Accepted { rows: 3, dropped: 1 };
     for room in 0..40_usize {
         let expected = match room.checked_sub(lines.len()) {
@@ -197,12 +202,15 @@ fn any_rows() {
     let max = u32::MAX;
     let all = Answer::Accepted { rows: usize::MAX, dropped: usize::MAX };
     let big = "18446744073709551615";
+    // A row and four numbers of another; a finish where nothing is open, two tags over 2, a start and a leaf.
+    let cut = [1, max, max, max, max, 1, 7, 7, 7];
+    let any = [[2, 0, 0, 0, 1], [3, 1, 1, 1, 1], [max, 1, 1, 1, 1], [0, 5, 9, 9, max], [1, 6, 7, 8, 9]].concat();
     for (answer, tree, dropped, lines) in [
         (all, &[][..], &[][..], format!("ok {big} {big}\n")),
-        (all, &[1, max, max, max, 7, 7, 7], &[max, max, max, 8, 8], format!("ok {big} {big}\n0 {max} {max} {max}\nd {max} {max} {max}\n")),
-        (all, &[2, 0, 0, 0, 3, 1, 1, 1, max, 1, 1, 1, 0, 5, 9, 9, 1, 6, 7, 8], &[], format!("ok {big} {big}\n0 5\n1 6 7 8\n")),
-        (Answer::Accepted { rows: 1, dropped: 0 }, &[0, 1, 0, 0, 0, 2, 0, 0], &[1, 2, 3], "ok 1 0\n0 1\n".to_string()),
-        (refused(0, usize::MAX), &[0, 1, 0, 0], &[1, 2, 3], format!("refused 0 {big}\n")),
+        (all, &cut, &[max, max, max, 8, 8], format!("ok {big} {big}\n0 {max} {max} {max} {max}\nd {max} {max} {max}\n")),
+        (all, &any, &[], format!("ok {big} {big}\n0 5 {max}\n1 6 7 8 9\n")),
+        (Answer::Accepted { rows: 1, dropped: 0 }, &[0, 1, 0, 0, 3, 0, 2, 0, 0, 4], &[1, 2, 3], "ok 1 0\n0 1 3\n".to_string()),
+        (refused(0, usize::MAX), &[0, 1, 0, 0, 0], &[1, 2, 3], format!("refused 0 {big}\n")),
         (refused(max as usize - 1, 0), &[], &[], "refused 4294967294 0\n".to_string()),
         (refused(max as usize + 1, 0), &[], &[], "refused 4294967295 0\n".to_string()),
         (refused(usize::MAX, 0), &[], &[], "refused 4294967295 0\n".to_string()),

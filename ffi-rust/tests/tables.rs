@@ -3,7 +3,7 @@ mod guarded;
 #[path = "guarded/numbers.rs"]
 mod numbers;
 
-use cartglaze::{Answer, Tables};
+use cartglaze::{Answer, Tables, TREE_ROW};
 use guarded::{guarded, refused};
 use numbers::Numbers;
 
@@ -17,7 +17,7 @@ const LARGE: [u32; 8] = [256, 65_535, 65_536, 1 << 30, (1 << 31) - 1, 1 << 31, u
 
 /// The answer alone, with room for whatever these tables can give.
 fn answer(tables: Tables) -> Answer {
-    guarded(tables, 4 * (64 + 8 * tables.tokens.len()), tables.tokens.len() / 4 * 3).0
+    guarded(tables, TREE_ROW * (64 + 8 * tables.tokens.len()), tables.tokens.len() / 4 * 3).0
 }
 
 /// Whether a run is accepted.

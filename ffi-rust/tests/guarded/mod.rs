@@ -1,5 +1,5 @@
 //! Runs whose lent buffers lie between numbers of their own, so that a write outside is seen.
-use cartglaze::{run, Answer, Tables};
+use cartglaze::{run, Answer, Tables, TREE_ROW};
 
 /// What the buffers hold before a run, so that what is not written can be told.
 pub const BEFORE: u32 = 0xBEF0_0BEF;
@@ -29,7 +29,7 @@ pub fn lend_numbers<R>(length: usize, use_it: impl FnOnce(&mut [u32]) -> R) -> (
 pub fn guarded(tables: Tables, room: usize, dropped_room: usize) -> (Answer, Vec<u32>, Vec<u32>) {
     let ((answer, dropped), tree) = lend_numbers(room, |tree| lend_numbers(dropped_room, |dropped| run(tables, tree, dropped)));
     let (kept_tree, kept_dropped, kept) = match answer {
-        Answer::Accepted { rows, dropped } => (rows * 4, dropped * 3, BEFORE),
+        Answer::Accepted { rows, dropped } => (rows * TREE_ROW, dropped * 3, BEFORE),
         Answer::Refused { number: 1..=4, .. } => (0, 0, BEFORE),
         Answer::Refused { number: 5..=8, .. } => (0, 0, 0),
         Answer::Refused { number, .. } => panic!("no run is refused with {number}"),

@@ -1,45 +1,48 @@
 //! From the order of writing to the order of the tree, in rowan's way: a stack of
 //! finished children and one of open nodes.
 
-use sheet::{Row, FINISH, LEAF, START};
+use sheet::{Row, FINISH, START};
 use tape::Write;
+
+/// A node that is open: its kind, the place at which it was opened, and the count of
+/// finished children before its first.
+struct Open {
+    kind: u16,
+    place: usize,
+    first: usize,
+}
 
 pub(crate) fn layout(writes: &[(Write, usize)]) -> Vec<Row> {
     let mut finished: Vec<Vec<Row>> = Vec::new();
-    let mut open: Vec<(u16, usize)> = Vec::new();
-    for (write, _) in writes {
-        match *write {
-            Write::Start { kind } => open.push((kind, finished.len())),
-            Write::Wrap { kind, mark } => open.push((kind, mark)),
-            Write::Leaf { kind, start, len } => finished.push(vec![leaf(kind, start, len)]),
+    let mut open: Vec<Open> = Vec::new();
+    for &(write, place) in writes {
+        match write {
+            Write::Start { kind } => {
+                let first = finished.len();
+                open.push(Open { kind, place, first });
+            }
+            Write::Wrap { kind, mark: first } => open.push(Open { kind, place, first }),
+            Write::Leaf {
+                kind,
+                start,
+                len,
+                token,
+            } => finished.push(vec![Row::leaf(kind.into(), start, len, token)]),
             Write::Finish => {
-                let (kind, first) = open.pop().expect("an open node");
-                let inside = finished.split_off(first).concat();
-                finished.push(node(kind, inside));
+                let node = open.pop().expect("an open node");
+                let inside = finished.split_off(node.first).concat();
+                finished.push(closed(node, inside, place));
             }
         }
     }
     finished.concat()
 }
 
-fn leaf(kind: u16, start: usize, len: usize) -> Row {
-    Row {
-        tag: LEAF,
-        kind: kind.into(),
-        start: start as u32,
-        len: len as u32,
-    }
-}
-
-fn node(kind: u16, inside: Vec<Row>) -> Vec<Row> {
-    let edge = |tag| Row {
-        tag,
-        kind: kind.into(),
-        start: 0,
-        len: 0,
-    };
-    let mut rows = vec![edge(START)];
+/// The rows of a node that is closed at a place.
+fn closed(node: Open, inside: Vec<Row>, place: usize) -> Vec<Row> {
+    let kind = node.kind.into();
+    let mut rows = vec![Row::edge(START, kind, node.place)];
     rows.extend(inside);
-    rows.push(edge(FINISH));
+    rows.push(Row::edge(FINISH, kind, place));
     rows
 }

@@ -2,7 +2,8 @@
 //!
 //! Each formula is read twice: by the plain build, whose tree is the Rust's own
 //! answer, and by a second build of the same files over recording doubles, which adds
-//! positions, dropped tokens and places. [`Run::of`] compares the two trees every time.
+//! positions, dropped tokens, places and the token of each row. [`Run::of`] compares the two
+//! trees every time.
 
 mod fault;
 mod kinds;

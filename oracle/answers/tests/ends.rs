@@ -1,7 +1,7 @@
 //! The ways in which the Rust ends are told apart, and so are its lexer's.
 
 use answers::{with_deep_stack, End, Fault, Run, Spec, Verdicts};
-use sheet::Answer;
+use sheet::{Answer, LEAF};
 
 fn run(text: &str, shapes: &str) -> Result<Run, Fault> {
     Run::of(text, &shapes.parse::<Spec>().expect("shapes"))
@@ -59,6 +59,32 @@ fn held_trivia_that_is_left_counts_as_read() {
     // The command's finish, the three held leaves, and of the script the wrap's two
     // openings, its inner finish and the underscore.
     assert_eq!(places[12..], [8, 8, 8, 8, 8, 8, 8, 8, 9, 9]);
+}
+
+#[test]
+fn a_leaf_of_held_trivia_has_its_own_token() {
+    let run = run("\\f {1} %c\n_", "f=fixed2").expect("an answer");
+    let leaves = run.rows.iter().filter(|row| row.tag == LEAF);
+    let tokens: Vec<u32> = leaves.map(|leaf| leaf.token).collect();
+    // Token 1, the blank before the argument, is dropped.
+    assert_eq!(tokens, [0, 2, 3, 4, 5, 6, 7, 8]);
+}
+
+#[test]
+fn the_characters_of_a_word_have_its_token() {
+    let run = run("\\f xyz", "f=fixed2").expect("an answer");
+    let tokens: Vec<u32> = run.rows.iter().map(|row| row.token).collect();
+    // Root, command, \f; three rows of each argument; the command's finish. All of these
+    // from the first argument on have the Word, of which `z` is left: Text, then Root.
+    assert_eq!(tokens, [0, 0, 0, 2, 2, 2, 2, 2, 2, 2, 2, 2, 3, 3]);
+}
+
+#[test]
+fn a_wrap_s_openings_and_inner_finish_have_the_token_that_meets_it() {
+    let run = run("{1}_2", "").expect("an answer");
+    let tokens: Vec<u32> = run.rows.iter().map(|row| row.token).collect();
+    // Root; Attach and Arg; the group; Arg's finish, `_`, `2`; Attach's finish, Root's.
+    assert_eq!(tokens, [0, 3, 3, 0, 0, 1, 1, 2, 2, 3, 3, 3, 4, 5, 5]);
 }
 
 #[test]

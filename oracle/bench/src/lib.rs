@@ -7,7 +7,7 @@ mod rivals;
 mod stack;
 mod workloads;
 
-pub use insertions::{insert_all, insertions, Insertion};
+pub use insertions::{insert_all, insertions, Insertion, Numbers};
 pub use measured::Measured;
 pub use rivals::{Prepared, Rival};
 pub use stack::{least_stack, read_on};

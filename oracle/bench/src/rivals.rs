@@ -8,10 +8,10 @@ use mitex_lexer::Lexer;
 use mitex_parser::Parser;
 use mitex_parser_prepared::Parser as PreparedParser;
 use mitex_spec::CommandSpec;
-use sheet::Tables;
+use sheet::{Row, Tables};
 
 use crate::clock::{least, time};
-use crate::insertions::{insert_all, insertions, Insertion};
+use crate::insertions::{insert_all, insertions, Insertion, Numbers};
 use crate::measured::Measured;
 use crate::workloads::Workload;
 
@@ -43,7 +43,7 @@ pub struct Prepared {
     tree: Vec<u32>,
     dropped: Vec<u32>,
     insertions: Vec<Insertion>,
-    rows: Vec<[u32; 4]>,
+    rows: Vec<Numbers>,
 }
 
 impl Prepared {
@@ -56,7 +56,7 @@ impl Prepared {
         let mut prepared = Self {
             spec: spec.command_spec(),
             insertions: insertions(&run.writes),
-            tree: vec![0; 4 * run.writes.len()],
+            tree: vec![0; Row::WIDTH * run.writes.len()],
             dropped: vec![0; 3 * run.tables.token_count()],
             rows: Vec::with_capacity(run.writes.len()),
             tables: run.tables,
@@ -72,8 +72,8 @@ impl Prepared {
             green,
             PreparedParser::new("", prepared.spec.clone()).parse()
         );
-        let told = |row: &sheet::Row| [row.tag, row.kind, row.start, row.len];
-        assert!(run.rows.iter().map(told).eq(prepared.rows.iter().copied()));
+        let told = run.rows.iter().map(|row| row.numbers());
+        assert!(told.eq(prepared.rows.iter().copied()));
         prepared
     }
 

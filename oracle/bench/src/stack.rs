@@ -5,10 +5,13 @@ use std::thread;
 
 use answers::Run;
 use cases::around_limits;
-use sheet::Tables;
+use sheet::{Row, Tables};
 
 /// Stacks are tried in steps of this many bytes.
 const STEP: usize = 4096;
+
+/// More rows than a token of those formulas makes on the way to their deepest node.
+const ROWS_A_TOKEN: usize = 16;
 
 /// The smallest stack, in bytes, on which a process of its own reads each formula around
 /// 128 open nodes. Too small a one ends that process by a signal.
@@ -40,7 +43,7 @@ pub fn read_on(bytes: usize) {
         .collect();
     let read = move || {
         for tables in tables {
-            let mut tree = vec![0; 64 * tables.token_count() + 64];
+            let mut tree = vec![0; Row::WIDTH * ROWS_A_TOKEN * (tables.token_count() + 1)];
             let mut dropped = vec![0; 3 * tables.token_count()];
             let _ = port::run(&tables, &mut tree, &mut dropped);
         }

@@ -1,7 +1,7 @@
 //! Inserted row by row, the rows are the tree's.
 
 use answers::{Run, Spec};
-use bench::{insert_all, insertions, WORKLOADS};
+use bench::{insert_all, insertions, Numbers, WORKLOADS};
 use cases::dice::Dice;
 use cases::{all_sequences, by_chance, usual};
 
@@ -11,11 +11,7 @@ fn check(text: &str, spec: &Spec) {
     };
     let mut rows = Vec::new();
     insert_all(&mut rows, &insertions(&run.writes));
-    let told: Vec<[u32; 4]> = run
-        .rows
-        .iter()
-        .map(|row| [row.tag, row.kind, row.start, row.len])
-        .collect();
+    let told: Vec<Numbers> = run.rows.iter().map(|row| row.numbers()).collect();
     if !run.rows.is_empty() {
         assert_eq!(rows, told, "{text}");
     }

@@ -17,7 +17,7 @@ impl Case {
         Self {
             tables: run.tables.clone(),
             room,
-            answer: run.answer(room as usize / 4),
+            answer: run.answer(Row::room(room as usize)),
         }
     }
 
@@ -44,6 +44,7 @@ impl Case {
 
 fn write_row(bytes: &mut Bytes, row: &Row) {
     bytes.u8(64 * row.tag + row.kind);
+    bytes.u16(row.token);
     if row.tag == LEAF {
         bytes.u16(row.start);
         bytes.u16(row.len);
@@ -101,12 +102,14 @@ fn read_answer(bytes: &mut Unread) -> Option<Answer> {
 fn read_row(bytes: &mut Unread) -> Option<Row> {
     let first = bytes.number(1)?;
     let (tag, kind) = (first / 64, first % 64);
+    let token = bytes.number(2)?;
     let width = if tag == LEAF { 2 } else { 0 };
     Some(Row {
         tag,
         kind,
         start: bytes.number(width)?,
         len: bytes.number(width)?,
+        token,
     })
 }
 

@@ -36,7 +36,7 @@ impl Counts {
         let kinds = case.tables.tokens().map(|token| token.kind);
         add_all(&mut self.token_kinds, kinds.map(token_name));
         add_all(&mut self.forms, forms(case));
-        let told = Slip::LISTED.iter().filter(|&&slip| tells(case, slip));
+        let told = Slip::named().filter(|&slip| tells(case, slip));
         add_all(&mut self.slips, told.map(|slip| format!("{slip:?}")));
         match &case.answer {
             Answer::Refused { number, .. } => {

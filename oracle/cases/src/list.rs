@@ -3,7 +3,7 @@
 use std::collections::HashSet;
 
 use answers::{Fault, Run, Spec};
-use sheet::Answer;
+use sheet::{Answer, Row, SHEET_BYTES, TREE_ROWS};
 
 use crate::arguments::in_every_scope;
 use crate::dice::Dice;
@@ -13,12 +13,11 @@ use crate::parts::{shapes_of_kinds, used_shapes, usual_shapes};
 use crate::stream::by_chance;
 use crate::{sequences, Case};
 
+/// The size that the list in the repository may have.
+pub const MOST_BYTES: usize = 3_400_000;
+
 /// The seed of the list in the repository.
 pub const SEED: u64 = 20_240_117;
-
-/// What `treelist` reads at most, and what it has room for.
-const SHEET: usize = 32_768;
-const ROWS: usize = 4_096;
 
 /// All cases in their order: the named formulas, then the generators' cases.
 pub fn recorded_list(seed: u64) -> Vec<Case> {
@@ -62,7 +61,7 @@ impl List {
 
     fn add_with_room(&mut self, run: &Run, room: u32) -> bool {
         let sheet = run.tables.sheet();
-        let fits = sheet.len() <= SHEET && run.writes.len() <= ROWS;
+        let fits = sheet.len() <= SHEET_BYTES && run.writes.len() <= TREE_ROWS;
         let adds = fits && !self.seen.contains(&(sheet, room));
         if adds {
             self.push(run, room);
@@ -101,7 +100,7 @@ impl List {
         for formula in paper_formulas() {
             let run = formula.run().expect("a named formula has an answer");
             if run.writes.len() <= MOST_ROOMS {
-                self.add_every_room(&run, dice);
+                self.add_every_room(&run);
             }
         }
         let mut formulas = 0;
@@ -111,17 +110,19 @@ impl List {
                 continue;
             };
             if (8..=MOST_ROOMS).contains(&run.writes.len()) {
-                self.add_every_room(&run, dice);
+                self.add_every_room(&run);
                 formulas += 1;
             }
         }
     }
 
-    /// Every room, with some numbers over that make no row.
-    fn add_every_room(&mut self, run: &Run, dice: &mut Dice) {
-        for rows in 0..=run.writes.len() as u32 {
-            let over = dice.below(4) as u32;
-            self.add_with_room(run, 4 * rows + over);
+    /// Room for every count of rows, and one number less each time, which makes a row less.
+    fn add_every_room(&mut self, run: &Run) {
+        for rows in 0..=run.writes.len() {
+            let room = (Row::WIDTH * rows) as u32;
+            for room in [room.saturating_sub(1), room] {
+                self.add_with_room(run, room);
+            }
         }
     }
 
@@ -157,7 +158,7 @@ impl List {
             let Some(run) = self.run(&text, &spec) else {
                 continue;
             };
-            if let Answer::Refused { number, .. } = run.answer(ROWS) {
+            if let Answer::Refused { number, .. } = run.answer(TREE_ROWS) {
                 let left = wanted.get_mut(number as usize).filter(|left| **left > 0);
                 if let Some(left) = left {
                     *left -= usize::from(self.add_with_room(&run, FULL_ROOM));

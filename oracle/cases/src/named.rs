@@ -1,12 +1,13 @@
-//! The formulas that have a place in some document: those of document 01, and those
-//! that the comments of the Rust quote.
+//! The formulas that have a place in some document: those of document 01, those that show
+//! how it and document 02 are read, and those that the comments of the Rust quote.
 
 use answers::{Fault, Run, Spec};
 
 use crate::Case;
 
-/// The room of `treelist`, in numbers.
-pub const FULL_ROOM: u32 = 4 * 4_096;
+/// The largest room of a case, in numbers: as many rows as `treelist` has, and four numbers
+/// over that make no row.
+pub const FULL_ROOM: u32 = 16_384;
 
 /// A formula with its shapes, the room to give it and what is said of it.
 pub struct Formula {
@@ -43,7 +44,7 @@ impl Formula {
     }
 }
 
-/// The formulas of document 01 in its order, then those of the readings of it.
+/// The formulas of document 01 in its order, then those of the readings.
 pub fn paper_formulas() -> Vec<Formula> {
     [to_check(), by_reading()].into_iter().flatten().collect()
 }
@@ -54,8 +55,8 @@ fn to_check() -> Vec<Formula> {
         formula("", "", "root, 2 rows"),
         formula("'", "", "a plain leaf"),
         formula("a_b", "", "11 rows"),
-        formula("a_b", "", "with 43 numbers of room: refused 8 at 3").with_room(43),
-        formula("a_b", "", "with 44 accepted").with_room(44),
+        formula("a_b", "", "with 54 numbers of room: refused 8 at 3").with_room(54),
+        formula("a_b", "", "with 55 accepted").with_room(55),
         formula("a_^b", "", "16 rows"),
         formula("{a_}", "", "the `}` is an Error in the script"),
         formula("a_\\f12^c", "f=fixed2", "the second Attach has no Arg"),
@@ -80,7 +81,7 @@ fn to_check() -> Vec<Formula> {
 #[rustfmt::skip]
 fn by_reading() -> Vec<Formula> {
     vec![
-        formula("\\f xy", "f=fixed2", "places 0 0 0 2 2 2 2 2 3 3 3"),
+        formula("\\f xy", "f=fixed2", "fifth numbers 0 0 0 2 2 2 2 2 3 3 3, which are the places"),
         formula("__\\l", "l=left1", "refused 6"),
         formula("a_^\\l", "l=left1", "accepted, with the mark's row before the node's"),
         formula("\\begin{m} \\end{m}", "m=env-fixed1", "the `\\end` is the argument"),
@@ -94,6 +95,8 @@ fn by_reading() -> Vec<Formula> {
         formula("a_1\\l", "l=left1", "left1 wraps from last"),
         formula("\\f 1 ", "f=fixed2", "what is left of the held follows the command"),
         formula("$", "", "a lone `$`"),
+        formula("x\\o y", "o=infix", "fifth numbers 0 1 1 0 0 1 1 1 2 2 3 3 4 4 4 4"),
+        formula("\\f x &", "f=fixed2", "fifth numbers 0 0 0 2 2 3 4 3 4 5"),
     ]
 }
 

@@ -1,9 +1,10 @@
-//! The model of document 01 agrees with the Rust on generated formulas, and what was
-//! dropped puts the text together again.
+//! The model of document 01 agrees with the Rust on generated formulas, what was dropped
+//! puts the text together again, and each leaf lands in its token.
 
 use answers::{formula_questions, with_deep_stack, Fault, Run, Spec};
 use cases::dice::Dice;
 use cases::{all_sequences, around_limits, by_chance, usual};
+use sheet::Row;
 
 fn runs(formulas: Vec<(String, Spec)>, check: impl Fn(&str, &Run) + Send + 'static) {
     with_deep_stack(move || {
@@ -29,7 +30,7 @@ fn formulas_by_chance(count: usize, most: usize) -> Vec<(String, Spec)> {
 
 fn agrees(text: &str, run: &Run) {
     for room in 0..=run.writes.len() {
-        let model = model::answer(&run.tables, 4 * room, None);
+        let model = model::answer(&run.tables, Row::numbers_for(room), None);
         assert_eq!(run.answer(room), model, "{text:?} with room for {room}");
     }
 }
@@ -45,7 +46,7 @@ fn the_model_agrees_at_every_room() {
 fn the_model_agrees_on_long_formulas() {
     runs(formulas_by_chance(200, 1_000), |text, run| {
         let room = run.writes.len();
-        let model = model::answer(&run.tables, 4 * room, None);
+        let model = model::answer(&run.tables, Row::numbers_for(room), None);
         assert_eq!(run.answer(room), model, "{text:?}");
     });
 }
@@ -86,6 +87,34 @@ fn returns(text: &str, run: &Run) {
 fn leaves_and_dropped_tokens_give_the_text() {
     runs(short_sequences(), returns);
     runs(formulas_by_chance(5_000, 40), returns);
+}
+
+/// A leaf lies inside its token's text, leaves come in the order of their tokens, and each
+/// token has either leaves or a dropped row.
+fn lands(text: &str, run: &Run) {
+    if run.end != answers::End::Whole {
+        return;
+    }
+    let leaves = run.rows.iter().filter(|row| row.tag == sheet::LEAF);
+    let mut tokens: Vec<u32> = Vec::new();
+    for leaf in leaves {
+        let token = run.tables.token(leaf.token as usize);
+        let inside = token.start <= leaf.start && leaf.start + leaf.len <= token.start + token.len;
+        assert!(inside, "{text:?}: {leaf:?}");
+        tokens.push(leaf.token);
+    }
+    assert!(tokens.is_sorted(), "{text:?}");
+    tokens.dedup();
+    tokens.extend(run.dropped.iter().map(|row| row.token));
+    tokens.sort_unstable();
+    let all = 0..run.tables.token_count() as u32;
+    assert!(tokens.into_iter().eq(all), "{text:?}");
+}
+
+#[test]
+fn each_leaf_lands_in_its_token() {
+    runs(short_sequences(), lands);
+    runs(formulas_by_chance(5_000, 40), lands);
 }
 
 #[test]

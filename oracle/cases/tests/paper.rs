@@ -1,6 +1,6 @@
-//! The formulas of document 01 come out as it says.
+//! The formulas of document 01 come out as it says, with the fifth number of document 02.
 
-use cases::{notation, paper_formulas, Formula};
+use cases::{notation, paper_formulas, Case, Formula};
 use sheet::{listing, Answer};
 
 /// An answer in one line: rows and tree and what was dropped, or the refusal.
@@ -47,14 +47,15 @@ fn small_formulas() {
 }
 
 #[test]
-fn room_of_43_and_44_numbers() {
+fn room_of_54_and_55_numbers() {
     let run = find("a_b", "").run().expect("an answer");
     let refused = Answer::Refused {
         number: 8,
         place: 3,
     };
-    assert_eq!(run.answer(43 / 4), refused);
-    assert!(matches!(run.answer(44 / 4), Answer::Accepted { .. }));
+    assert_eq!(Case::of(&run, 54).answer, refused);
+    let enough = Case::of(&run, 55).answer;
+    assert!(matches!(enough, Answer::Accepted { .. }));
 }
 
 #[test]
@@ -144,6 +145,22 @@ fn places_of_rows() {
 }
 
 #[test]
+fn fifth_numbers() {
+    let check = |text: &str, shapes: &str, expected: &[u32]| {
+        let run = find(text, shapes).run().expect("an answer");
+        let tokens: Vec<u32> = run.rows.iter().map(|row| row.token).collect();
+        assert_eq!(tokens, expected, "{text}");
+    };
+    check("a_b", "", &[0, 1, 1, 0, 0, 1, 1, 1, 2, 3, 3]);
+    let infix = [0, 1, 1, 0, 0, 1, 1, 1, 2, 2, 3, 3, 4, 4, 4, 4];
+    check("x\\o y", "o=infix", &infix);
+    check("\\f xy", "f=fixed2", &[0, 0, 0, 2, 2, 2, 2, 2, 3, 3, 3]);
+    check("\\f x &", "f=fixed2", &[0, 0, 0, 2, 2, 3, 4, 3, 4, 5]);
+    // The start of a skipped body is made before its opener is dropped.
+    check("\\iffalse a", "", &[0, 0, 1, 2, 3, 3]);
+}
+
+#[test]
 fn classes_that_do_not_fit() {
     let begin = "14 Root[Env[Begin[f] Curly[{ Text[1] }]]]";
     check("\\begin{f}{1}", "f=fixed1", begin);
@@ -162,13 +179,13 @@ fn arguments_of_environments() {
 
 const TREELIST: &str = "\
 ok 11 2
-0 44
-1 35
-2 27 0 5
-2 28
-3 13 6 1
-2 28
-3 13 8 1
+0 44 0
+1 35 0
+2 27 0 5 0
+2 28 2
+3 13 6 1 2
+2 28 4
+3 13 8 1 4
 d 1 1 1
 d 3 1 2
 ";

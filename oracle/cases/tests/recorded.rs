@@ -1,12 +1,13 @@
 //! The recorded list in the repository: how it is made, what it reaches, and that it
 //! replays.
 
+use std::collections::BTreeSet;
 use std::path::Path;
 
 use answers::with_deep_stack;
-use cases::{read_list, recorded_list, write_list, Case, Counts, SEED};
+use cases::{read_list, recorded_list, write_list, Case, Counts, FULL_ROOM, MOST_BYTES, SEED};
 use model::Slip;
-use sheet::Answer;
+use sheet::{Answer, Row, SHEET_BYTES, TREE_ROWS};
 
 fn file() -> Vec<u8> {
     let data = Path::new(env!("CARGO_MANIFEST_DIR")).join("../../crates/cases/data");
@@ -33,15 +34,35 @@ fn it_replays_with_the_model() {
 fn its_bytes_are_within_their_limits() {
     let bytes = file();
     let cases = read_list(&bytes);
-    assert!(bytes.len() <= 3_000_000 && cases.len() >= 3_000);
+    assert!(bytes.len() <= MOST_BYTES && cases.len() >= 3_000);
     assert!(write_list(&cases) == bytes, "reading and writing again");
     for case in &cases {
-        assert!(case.tables.sheet().len() <= 32_768);
+        assert!(case.tables.sheet().len() <= SHEET_BYTES && case.room <= FULL_ROOM);
         assert!(write_list(std::slice::from_ref(case)).len() <= 65_536);
         if let Answer::Accepted { rows, .. } = &case.answer {
-            assert!(rows.len() <= 4_096 && rows.len() <= case.room as usize / 4);
+            assert!(rows.len() <= TREE_ROWS && rows.len() <= Row::room(case.room as usize));
         }
     }
+}
+
+#[test]
+fn it_has_every_room_of_a_short_formula_and_one_number_less() {
+    let is_script = |case: &&Case| case.tables.text == b"a_b" && case.tables.shapes.is_empty();
+    let cases = read_list(&file());
+    let rooms: BTreeSet<usize> = cases
+        .iter()
+        .filter(is_script)
+        .map(|case| case.room as usize)
+        .collect();
+    let rows = 11;
+    for rows in 1..=rows {
+        let room = Row::WIDTH * rows;
+        assert!(
+            rooms.contains(&room) && rooms.contains(&(room - 1)),
+            "{room}"
+        );
+    }
+    assert!(rooms.contains(&0));
 }
 
 #[test]
@@ -69,7 +90,12 @@ fn it_reaches_every_kind_form_scope_and_refusal() {
 #[test]
 fn it_tells_every_slip() {
     let counts = Counts::of(&read_list(&file()));
-    assert_eq!(counts.slips.len(), Slip::LISTED.len(), "{:?}", counts.slips);
+    assert_eq!(
+        counts.slips.len(),
+        Slip::named().count(),
+        "{:?}",
+        counts.slips
+    );
 }
 
 /// The kinds that the lexer makes.

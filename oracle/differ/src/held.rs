@@ -56,14 +56,17 @@ fn answer_differs(
     room: usize,
     runner: Runner,
 ) -> Result<(), String> {
-    let mut tree = vec![BEFORE; 4 * room];
+    let mut tree = vec![BEFORE; Row::numbers_for(room)];
     let mut dropped = vec![BEFORE; 3 * run.tables.token_count()];
     let ran = runner(&run.tables, &mut tree, &mut dropped);
     let told = Answer::of(ran, &tree, &dropped);
     let rust = run.answer(room);
     if told != rust {
+        let row = rows_differ(&rust, &told);
         let (rust, told) = (listing(&rust), listing(&told));
-        return Err(format!("room {room}\nthe Rust: {rust}the port: {told}"));
+        return Err(format!(
+            "room {room}\nthe Rust: {rust}the port: {told}{row}"
+        ));
     }
     buffers_differ(&told, &tree, &dropped)?;
     match &told {
@@ -75,10 +78,27 @@ fn answer_differs(
     }
 }
 
+/// The first row that differs, as a listing has no line for a finish.
+fn rows_differ(rust: &Answer, told: &Answer) -> String {
+    let (Answer::Accepted { rows: rust, .. }, Answer::Accepted { rows: told, .. }) = (rust, told)
+    else {
+        return String::new();
+    };
+    let mut pairs = rust.iter().zip(told).enumerate();
+    match pairs.find(|(_, (rust, told))| rust != told) {
+        Some((at, (rust, told))) => {
+            format!("row {at} of the Rust: {rust:?}\nrow {at} of the port: {told:?}")
+        }
+        None => String::new(),
+    }
+}
+
 /// Behind the rows all is as it was; a refusal leaves zeros.
 fn buffers_differ(told: &Answer, tree: &[u32], dropped: &[u32]) -> Result<(), String> {
     let (from, left) = match told {
-        Answer::Accepted { rows, dropped } => ([4 * rows.len(), 3 * dropped.len()], BEFORE),
+        Answer::Accepted { rows, dropped } => {
+            ([Row::WIDTH * rows.len(), 3 * dropped.len()], BEFORE)
+        }
         Answer::Refused { .. } => ([0, 0], 0),
     };
     let [tree, dropped] = [&tree[from[0]..], &dropped[from[1]..]];

@@ -1,11 +1,12 @@
-//! The comparison tells each of the slips that look right from the Rust.
+//! The comparison tells each of the slips that look right from the Rust, and each slip in a
+//! row's fifth number.
 
 use answers::{Run, Spec};
 use cases::dice::Dice;
 use cases::smallest;
 use differ::{difference, formulas, Rooms, Runner};
 use model::Slip;
-use sheet::{Ran, Tables};
+use sheet::{Ran, Row, Tables};
 
 /// How a runner differs on a formula.
 fn says(text: &str, spec: &Spec, runner: Runner) -> Option<String> {
@@ -23,23 +24,66 @@ fn first(runner: Runner) -> Option<(String, String)> {
     Some((text, said))
 }
 
+/// The smallest formula on which a slip shows, and how.
+fn shown(slip: Slip) -> (String, String) {
+    let slipped = |tables: &Tables, tree: &mut [u32], dropped: &mut [u32]| -> Ran {
+        model::run(tables, tree, dropped, Some(slip))
+    };
+    first(&slipped).unwrap_or_else(|| panic!("{slip:?} is not found"))
+}
+
 #[test]
 fn every_slip_is_found_and_cut_down() {
     for slip in Slip::LISTED {
-        let slipped = |tables: &Tables, tree: &mut [u32], dropped: &mut [u32]| -> Ran {
-            model::run(tables, tree, dropped, Some(slip))
-        };
-        let (text, said) = first(&slipped).unwrap_or_else(|| panic!("{slip:?} is not found"));
+        let (text, said) = shown(slip);
         assert!(text.chars().count() <= 20, "{slip:?}: {text}");
         assert!(said.contains("the Rust: ") && said.contains("the port: "));
     }
+}
+
+/// A slip in the fifth number shows on a short formula, in a row of this tag and kind.
+#[test]
+fn every_wrong_fifth_number_is_found_and_its_row_shown() {
+    let row_of = |slip| match slip {
+        Slip::HeldHasPlace => (3, "tag: 1, kind: 2,"),
+        Slip::WrapHasFirstLeaf => (2, "tag: 0, kind: 28,"),
+        Slip::FinishHasNext => (0, "tag: 2, kind: 44,"),
+        Slip::SkippedHasNext => (8, "tag: 0, kind: 40,"),
+        other => panic!("{other:?} is in another number"),
+    };
+    for slip in Slip::FIFTH_NUMBER {
+        let (most, row) = row_of(slip);
+        let (text, said) = shown(slip);
+        assert!(text.chars().count() <= most, "{slip:?}: {text}");
+        for side in ["the Rust", "the port"] {
+            let line = said
+                .lines()
+                .find(|line| line.contains(&format!("of {side}: Row")));
+            let line = line.unwrap_or_else(|| panic!("{slip:?}: {said}"));
+            assert!(line.contains(row), "{slip:?}: {line}");
+        }
+    }
+}
+
+#[test]
+fn a_room_that_is_not_rounded_down_is_found() {
+    // Numbers that are no whole row are taken for a row.
+    let rounds_up = |tables: &Tables, tree: &mut [u32], dropped: &mut [u32]| -> Ran {
+        let mut more = tree.to_vec();
+        more.resize(Row::WIDTH * tree.len().div_ceil(Row::WIDTH), 0);
+        let ran = model::run(tables, &mut more, dropped, None);
+        tree.copy_from_slice(&more[..tree.len()]);
+        ran
+    };
+    let (_, said) = first(&rounds_up).expect("a difference");
+    assert!(said.contains("the Rust: refused 8 "), "{said}");
 }
 
 #[test]
 fn what_is_left_in_the_buffers_counts() {
     let untidy = |tables: &Tables, tree: &mut [u32], dropped: &mut [u32]| -> Ran {
         let ran = model::run(tables, tree, dropped, None);
-        if ran.is_ok_and(|counts| 4 * counts.rows < tree.len()) {
+        if ran.is_ok_and(|counts| Row::WIDTH * counts.rows < tree.len()) {
             *tree.last_mut().expect("a number behind the rows") ^= 1;
         }
         ran

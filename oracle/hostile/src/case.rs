@@ -1,7 +1,7 @@
 //! One case: tables, and the lengths of both buffers.
 
 use cases::dice::Dice;
-use sheet::Tables;
+use sheet::{Row, Tables};
 
 use crate::damage::damage;
 use crate::{text, tokens};
@@ -33,8 +33,8 @@ impl Case {
             _ => 3 * rows,
         };
         let tree = match dice.below(4) {
-            0 => dice.below(8 * rows + 12),
-            _ => 32 * (rows + tables.text.len()) + dice.below(20),
+            0 => dice.below(Row::WIDTH * (2 * rows + 3)),
+            _ => 8 * Row::WIDTH * (rows + tables.text.len()) + dice.below(5 * Row::WIDTH),
         };
         Self {
             tables,

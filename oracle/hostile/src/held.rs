@@ -46,7 +46,7 @@ fn run(case: &Case, before: &[Lent; 2], runner: Runner) -> (Ran, [Lent; 2]) {
 /// others set all to zeros, and behind the rows all is as it was.
 fn kept(ran: Ran, before: &[Lent; 2], after: &[Lent; 2]) -> Result<(), String> {
     let written = match ran {
-        Ok(counts) => [4 * counts.rows, 3 * counts.dropped],
+        Ok(counts) => [Row::WIDTH * counts.rows, 3 * counts.dropped],
         Err(_) => [0, 0],
     };
     for ((before, after), written) in before.iter().zip(after).zip(written) {
@@ -64,7 +64,7 @@ fn kept(ran: Ran, before: &[Lent; 2], after: &[Lent; 2]) -> Result<(), String> {
 /// The questions about some row, of whatever the tree buffer holds.
 fn asked(case: &Case, dice: &mut Dice, tree: &Lent) -> Result<(), String> {
     let (text, tree) = (&case.tables.text[..], tree.lent());
-    let rows: Vec<Row> = tree.chunks_exact(4).map(Row::of).collect();
+    let rows: Vec<Row> = tree.chunks_exact(Row::WIDTH).map(Row::of).collect();
     let formula = rows.iter().position(|row| row.tag == 0 && row.kind == 43);
     for at in [dice.below(rows.len() + 2), formula.unwrap_or(0)] {
         let told = [

@@ -2,7 +2,8 @@
 
 use cases::dice::Dice;
 use hostile::{difference, smallest, Around, Case, Runner};
-use sheet::{Counts, Ran, Refusal, Tables};
+use model::Slip;
+use sheet::{Counts, Ran, Refusal, Row, Tables};
 
 /// The first case by chance on which a runner differs, cut down.
 fn first(runner: Runner) -> Option<Case> {
@@ -37,6 +38,17 @@ fn a_place_beside_the_right_one_is_found() {
 }
 
 #[test]
+fn a_wrong_fifth_number_is_found() {
+    for slip in Slip::FIFTH_NUMBER {
+        let slipped = |tables: &Tables, tree: &mut [u32], dropped: &mut [u32]| {
+            model::run(tables, tree, dropped, Some(slip))
+        };
+        let case = first(&slipped).unwrap_or_else(|| panic!("{slip:?} is not found"));
+        assert!(case.tables.token_count() <= 2, "{slip:?}: {case:?}");
+    }
+}
+
+#[test]
 fn a_buffer_that_keeps_something_after_a_refusal_is_found() {
     let keeps = |tables: &Tables, tree: &mut [u32], dropped: &mut [u32]| {
         let before = dropped.to_vec();
@@ -55,14 +67,14 @@ fn a_number_behind_the_rows_is_found() {
     let writes = |tables: &Tables, tree: &mut [u32], dropped: &mut [u32]| {
         let ran = right(tables, tree, dropped);
         if let Ok(Counts { rows, .. }) = ran {
-            if let Some(next) = tree.get_mut(4 * rows) {
+            if let Some(next) = tree.get_mut(Row::WIDTH * rows) {
                 *next ^= 1;
             }
         }
         ran
     };
     let case = first(&writes).expect("a difference");
-    assert_eq!((case.tables.token_count(), case.tree), (0, 9));
+    assert_eq!((case.tables.token_count(), case.tree), (0, 11));
 }
 
 #[test]

@@ -1,4 +1,4 @@
-//! Document 01 as a plain program.
+//! Document 01 as a plain program, with the fifth number that document 02 adds to a row.
 //!
 //! It shares no code with the parser of mitex, so that holding the two against each other
 //! tests how the document is read. Where the document itself says that a routine is as the
@@ -28,7 +28,7 @@ use sheet::{Answer, Ran, Tables};
 /// buffers to zeros.
 pub fn run(tables: &Tables, tree: &mut [u32], dropped: &mut [u32], slip: Option<Slip>) -> Ran {
     checks::check(tables, dropped.len())?;
-    let result = Reader::new(tables, Rows::new(tree, dropped), slip).read();
+    let result = Reader::new(tables, Rows::new(tree, dropped, slip), slip).read();
     if result.is_err() {
         tree.fill(0);
         dropped.fill(0);

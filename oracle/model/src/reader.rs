@@ -2,7 +2,7 @@
 
 use std::ops::Range;
 
-use sheet::{Counts, Shape, Tables};
+use sheet::{Counts, Row, Shape, Tables};
 
 use crate::kinds::*;
 use crate::refusal::Step;
@@ -31,8 +31,7 @@ pub(crate) struct Reader<'t, 'b> {
 }
 
 impl<'t, 'b> Reader<'t, 'b> {
-    pub fn new(tables: &'t Tables, mut rows: Rows<'b>, slip: Option<Slip>) -> Self {
-        rows.wraps_outside = slip == Some(Slip::WrapOutside);
+    pub fn new(tables: &'t Tables, rows: Rows<'b>, slip: Option<Slip>) -> Self {
         let list = List {
             scope: Scope::Root,
             start: None,
@@ -121,8 +120,9 @@ impl<'t, 'b> Reader<'t, 'b> {
 
     fn take(&mut self, kind: u32, len: u32) -> Step {
         let token = self.tables.token(self.at);
-        self.rows
-            .leaf(kind, token.start + self.taken, len, self.at)?;
+        let start = token.start + self.taken;
+        let leaf = Row::leaf(kind, start as usize, len as usize, self.at);
+        self.rows.leaf(leaf, self.at)?;
         self.taken += len;
         if self.taken == token.len {
             self.pass();
@@ -157,12 +157,18 @@ impl<'t, 'b> Reader<'t, 'b> {
         }
     }
 
-    /// What is held is written.
+    /// What is held is written. It was read before, so the place is past it, while each
+    /// leaf has its own token.
     pub fn write_held(&mut self) -> Step {
         for index in std::mem::take(&mut self.held) {
             let token = self.tables.token(index);
-            let kind = tree_kind(token.kind);
-            self.rows.leaf(kind, token.start, token.len, self.at)?;
+            let (start, len) = (token.start as usize, token.len as usize);
+            let own = match self.slips(Slip::HeldHasPlace) {
+                true => self.at,
+                false => index,
+            };
+            let leaf = Row::leaf(tree_kind(token.kind), start, len, own);
+            self.rows.leaf(leaf, self.at)?;
         }
         Ok(())
     }

@@ -1,8 +1,10 @@
 //! Rows into lent buffers.
 
-use sheet::{Counts, FINISH, LEAF, START};
+use sheet::{Counts, Row, FINISH, LEAF, START};
 
+use crate::kinds::*;
 use crate::refusal::{refuse, Step};
+use crate::slip::Slip;
 
 /// The nodes that may be open at once, root counted.
 const OPEN_NODES: usize = 128;
@@ -30,12 +32,11 @@ pub(crate) struct Rows<'b> {
     drops: usize,
     children: usize,
     open: Vec<Node>,
-    /// See [`crate::Slip::WrapOutside`].
-    pub wraps_outside: bool,
+    slip: Option<Slip>,
 }
 
 impl<'b> Rows<'b> {
-    pub fn new(tree: &'b mut [u32], dropped: &'b mut [u32]) -> Self {
+    pub fn new(tree: &'b mut [u32], dropped: &'b mut [u32], slip: Option<Slip>) -> Self {
         Self {
             tree,
             dropped,
@@ -44,7 +45,7 @@ impl<'b> Rows<'b> {
             drops: 0,
             children: 0,
             open: Vec::new(),
-            wraps_outside: false,
+            slip,
         }
     }
 
@@ -72,7 +73,8 @@ impl<'b> Rows<'b> {
         if mark.children < node.first {
             return refuse(6, place);
         }
-        let row = if mark.children > node.first || self.wraps_outside {
+        let outside = self.slip == Some(Slip::WrapOutside);
+        let row = if mark.children > node.first || outside {
             mark.row
         } else {
             node.row + 1
@@ -84,7 +86,8 @@ impl<'b> Rows<'b> {
         if self.open.len() == OPEN_NODES {
             return refuse(7, place);
         }
-        self.insert(mark.row, [START, kind, 0, 0], place)?;
+        let start = Row::edge(START, kind, self.token_of_start(kind, mark.row, place));
+        self.insert(mark.row, start, place)?;
         self.open.push(Node {
             kind,
             first: mark.children,
@@ -93,8 +96,30 @@ impl<'b> Rows<'b> {
         Ok(())
     }
 
-    pub fn leaf(&mut self, kind: u32, start: u32, len: u32, place: usize) -> Step {
-        self.insert(self.rows, [LEAF, kind, start, len], place)?;
+    /// The fifth number of an opening is its place. Only a slip has another.
+    fn token_of_start(&self, kind: u32, row: usize, place: usize) -> usize {
+        match self.slip {
+            Some(Slip::WrapHasFirstLeaf) if kind == TREE_ARGUMENT => {
+                self.first_leaf(row).unwrap_or(place)
+            }
+            Some(Slip::SkippedHasNext) if [TREE_BLOCK_COMMENT, TREE_TYPST_CODE].contains(&kind) => {
+                place + 1
+            }
+            _ => place,
+        }
+    }
+
+    /// The token of the first leaf from a row on.
+    fn first_leaf(&self, row: usize) -> Option<usize> {
+        let rows = &self.tree[Row::WIDTH * row..Row::WIDTH * self.rows];
+        let mut rows = rows.chunks(Row::WIDTH).map(Row::of);
+        let leaf = rows.find(|row| row.tag == LEAF)?;
+        Some(leaf.token as usize)
+    }
+
+    /// A leaf has its own token; the place is where a refusal would stand.
+    pub fn leaf(&mut self, leaf: Row, place: usize) -> Step {
+        self.insert(self.rows, leaf, place)?;
         self.leaves += 1;
         self.children += 1;
         Ok(())
@@ -103,7 +128,8 @@ impl<'b> Rows<'b> {
     pub fn finish(&mut self, place: usize) -> Step {
         let node = self.open.pop().expect("an open node");
         self.children = node.first + 1;
-        self.insert(self.rows, [FINISH, node.kind, 0, 0], place)
+        let token = place + usize::from(self.slip == Some(Slip::FinishHasNext));
+        self.insert(self.rows, Row::edge(FINISH, node.kind, token), place)
     }
 
     pub fn drop(&mut self, token: usize, reason: u32) {
@@ -113,12 +139,13 @@ impl<'b> Rows<'b> {
     }
 
     /// Moves the rows from `at` on down by one and writes a row there.
-    fn insert(&mut self, at: usize, row: [u32; 4], place: usize) -> Step {
-        if self.rows == self.tree.len() / 4 {
+    fn insert(&mut self, at: usize, row: Row, place: usize) -> Step {
+        if self.rows == Row::room(self.tree.len()) {
             return refuse(8, place);
         }
-        self.tree.copy_within(4 * at..4 * self.rows, 4 * at + 4);
-        self.tree[4 * at..4 * at + 4].copy_from_slice(&row);
+        let [from, behind, end] = [at, at + 1, self.rows].map(|row| Row::WIDTH * row);
+        self.tree.copy_within(from..end, behind);
+        self.tree[from..behind].copy_from_slice(&row.numbers());
         self.rows += 1;
         Ok(())
     }

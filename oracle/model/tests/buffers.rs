@@ -2,7 +2,7 @@
 //! lent buffers.
 
 use model::run;
-use sheet::{Refusal, Tables};
+use sheet::{Refusal, Row, Tables};
 
 const MARK: u32 = 77;
 
@@ -109,21 +109,27 @@ fn one_brace_over_the_limit_is_refused_before_reading() {
 }
 
 #[test]
-fn seven_numbers_hold_one_row_of_two() {
-    let mut tree = [MARK; 7];
+fn nine_numbers_hold_one_row_of_two() {
+    let mut tree = [MARK; 9];
     let refusal = run(&Tables::default(), &mut tree, &mut [], None).expect_err("a refusal");
-    assert_eq!((refusal.number, refusal.place, tree), (8, 0, [0; 7]));
+    assert_eq!((refusal.number, refusal.place, tree), (8, 0, [0; 9]));
 }
 
 #[test]
 fn success_keeps_what_later_elements_held() {
-    let mut tree = [MARK; 18];
+    let mut tree = [MARK; 22];
     let mut dropped = [MARK; 7];
     let comment = tables(b"\\iffalse", &[33, 0, 8, 0], &[], &[]);
     let counts = run(&comment, &mut tree, &mut dropped, None).expect("accepted");
     assert_eq!((counts.rows, counts.dropped), (4, 1));
-    let rows = [0, 44, 0, 0, 0, 40, 0, 0, 2, 40, 0, 0, 2, 44, 0, 0];
-    assert_eq!((&tree[..16], &tree[16..]), (&rows[..], &[MARK; 2][..]));
+    let rows = [
+        [0, 44, 0, 0, 0],
+        [0, 40, 0, 0, 0],
+        [2, 40, 0, 0, 1],
+        [2, 44, 0, 0, 1],
+    ]
+    .concat();
+    assert_eq!((&tree[..20], &tree[20..]), (&rows[..], &[MARK; 2][..]));
     assert_eq!(dropped, [0, 2, 0, MARK, MARK, MARK, MARK]);
 }
 
@@ -133,8 +139,9 @@ fn kinds_that_no_lexer_makes() {
         let mut tree = [0; 64];
         let made = tables(b"x", &[kind, 0, 1, 0], &[], &[]);
         let counts = run(&made, &mut tree, &mut [0; 3], None).expect("accepted");
-        tree[4..4 * counts.rows - 4].to_vec()
+        tree[Row::WIDTH..Row::WIDTH * (counts.rows - 1)].to_vec()
     };
-    assert_eq!(rows(24), [1, 0, 0, 1]);
-    assert_eq!(rows(25), [0, 0, 0, 0, 1, 13, 0, 1, 2, 0, 0, 0]);
+    assert_eq!(rows(24), [1, 0, 0, 1, 0]);
+    let error = [[0, 0, 0, 0, 0], [1, 13, 0, 1, 0], [2, 0, 0, 0, 1]];
+    assert_eq!(rows(25), error.concat());
 }

@@ -1,9 +1,12 @@
 //! The proved library, over the same tables and answers as the model.
 
 use cartglaze::Answer;
-use sheet::{Counts, Ran, Refusal, Tables};
+use sheet::{Counts, Ran, Refusal, Row, Tables};
 
 pub use cartglaze::{is_display, is_inline, is_leaf, is_valid, leaf_text};
+
+// Both sides speak of the same rows.
+const _: () = assert!(cartglaze::TREE_ROW == Row::WIDTH);
 
 /// The whole run over lent buffers.
 pub fn run(tables: &Tables, tree: &mut [u32], dropped: &mut [u32]) -> Ran {

@@ -16,6 +16,9 @@ pub struct Row {
     pub kind: u32,
     pub start: u32,
     pub len: u32,
+    /// A leaf's own token; of another row the first token that was not wholly read just
+    /// before the row was made.
+    pub token: u32,
 }
 
 /// A token that no leaf holds.
@@ -45,7 +48,11 @@ impl Answer {
     pub fn of(ran: Ran, tree: &[u32], dropped: &[u32]) -> Self {
         match ran {
             Ok(counts) => Answer::Accepted {
-                rows: tree.chunks(4).take(counts.rows).map(Row::of).collect(),
+                rows: tree
+                    .chunks_exact(Row::WIDTH)
+                    .take(counts.rows)
+                    .map(Row::of)
+                    .collect(),
                 dropped: dropped
                     .chunks(3)
                     .take(counts.dropped)
@@ -61,14 +68,56 @@ impl Answer {
 }
 
 impl Row {
-    /// The row of four numbers.
+    /// So many numbers make a row.
+    pub const WIDTH: usize = 5;
+
+    /// The row of these numbers, in the order of the fields.
     pub fn of(numbers: &[u32]) -> Self {
         Row {
             tag: numbers[0],
             kind: numbers[1],
             start: numbers[2],
             len: numbers[3],
+            token: numbers[4],
         }
+    }
+
+    /// The row of a start or a finish.
+    pub fn edge(tag: u32, kind: u32, token: usize) -> Self {
+        Row {
+            tag,
+            kind,
+            start: 0,
+            len: 0,
+            token: token as u32,
+        }
+    }
+
+    /// The row of a leaf.
+    pub fn leaf(kind: u32, start: usize, len: usize, token: usize) -> Self {
+        let [start, len, token] = [start, len, token].map(|number| number as u32);
+        Row {
+            tag: LEAF,
+            kind,
+            start,
+            len,
+            token,
+        }
+    }
+
+    pub fn numbers(self) -> [u32; Row::WIDTH] {
+        [self.tag, self.kind, self.start, self.len, self.token]
+    }
+
+    /// The rows that a tree buffer of so many numbers has room for.
+    pub const fn room(numbers: usize) -> usize {
+        numbers / Row::WIDTH
+    }
+
+    /// So many numbers for these rows, and in most cases some over that make no row: a
+    /// comparison at every count of rows then tells a room that is not rounded down.
+    pub const fn numbers_for(rows: usize) -> usize {
+        rows * Row::WIDTH + rows % Row::WIDTH
     }
 }
 

@@ -17,14 +17,21 @@ fn accepted(rows: &[Row], dropped: &[Dropped]) -> String {
     let mut depth = 0;
     for row in rows {
         let Row {
-            kind, start, len, ..
+            tag,
+            kind,
+            start,
+            len,
+            token,
         } = row;
-        match row.tag {
+        match *tag {
             START => {
-                put(&mut lines, format_args!("{depth} {kind}"));
+                put(&mut lines, format_args!("{depth} {kind} {token}"));
                 depth += 1;
             }
-            LEAF => put(&mut lines, format_args!("{depth} {kind} {start} {len}")),
+            LEAF => put(
+                &mut lines,
+                format_args!("{depth} {kind} {start} {len} {token}"),
+            ),
             _ => depth -= 1,
         }
     }

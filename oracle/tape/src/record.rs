@@ -14,10 +14,13 @@ pub enum Write {
         kind: u16,
         mark: usize,
     },
+    /// A text, with the token that it comes from. A held token is wholly read before its
+    /// leaf is written, so this is not always the row's place.
     Leaf {
         kind: u16,
         start: usize,
         len: usize,
+        token: usize,
     },
     Finish,
 }
@@ -147,42 +150,48 @@ impl Tape {
     }
 
     pub fn leaf(&mut self, kind: u16, text: &str) {
-        let (text, place) = match self
+        let (text, token, place) = match self
             .eaten
             .take_if(|eaten| self.base + eaten.text.start == text.as_ptr() as usize)
         {
-            Some(eaten) => (eaten.text, eaten.token),
+            Some(eaten) => (eaten.text, eaten.token, eaten.token),
             None => {
                 self.settle();
-                if self.lies_inside(text) {
-                    (self.unhold(text), self.place())
+                let place = self.place();
+                let (text, token) = if self.lies_inside(text) {
+                    self.unhold(text)
                 } else {
                     self.character(text)
-                }
+                };
+                (text, token, place)
             }
         };
-        let (start, len) = (text.start, text.len());
-        self.writes.push((Write::Leaf { kind, start, len }, place));
+        let write = Write::Leaf {
+            kind,
+            start: text.start,
+            len: text.len(),
+            token,
+        };
+        self.writes.push((write, place));
         self.leaves += 1;
     }
 
-    /// A held token's leaf came after all.
-    fn unhold(&mut self, text: &str) -> Range<usize> {
+    /// A held token's leaf came after all: its text and the token.
+    fn unhold(&mut self, text: &str) -> (Range<usize>, usize) {
         let range = self.range(text);
         let held = self.vanished.iter().rposition(|v| v.start == range.start);
         let held = self.vanished.remove(held.expect("a leaf of a held token"));
         assert_eq!(held.reason, 1, "only trivia is held");
-        range
+        (range, held.token)
     }
 
-    /// A character that the parser copied out of the present Word.
+    /// A character that the parser copied out of the present Word: its text and the token.
     fn character(&mut self, text: &str) -> (Range<usize>, usize) {
-        let place = self.place();
         let start = self.present.start + self.taken;
         let range = start..start + text.len();
         assert_eq!(&self.source[range.clone()], text, "a character of the Word");
         self.taken += text.len();
-        (range, place)
+        (range, self.cursor)
     }
 
     pub(crate) fn ended(mut self) -> Self {

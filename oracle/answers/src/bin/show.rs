@@ -9,7 +9,7 @@ use std::io::{self, Write as _};
 use std::process::ExitCode;
 
 use answers::{names, with_deep_stack, Run, Spec};
-use sheet::{listing, Answer, LEAF, START};
+use sheet::{listing, Answer, Row, LEAF, START};
 use tape::Write;
 
 enum Wanted {
@@ -40,7 +40,7 @@ fn asked() -> Result<Asked, String> {
             "--sheet" => asked.wanted = Wanted::Sheet,
             "--room" => {
                 let numbers = words.next().and_then(|n| n.parse::<usize>().ok());
-                asked.room = numbers.ok_or("--room wants a count of numbers")? / 4;
+                asked.room = Row::room(numbers.ok_or("--room wants a count of numbers")?);
             }
             _ => asked.spec.shapes.push(word.parse()?),
         }
@@ -121,8 +121,13 @@ fn writes(formula: &str, run: &Run) {
             Write::Wrap { kind, mark } => {
                 format!("wrap {} at child {mark}", names::tree_kind(kind.into()))
             }
-            Write::Leaf { kind, start, len } => format!(
-                "leaf {} {start} {len} {:?}",
+            Write::Leaf {
+                kind,
+                start,
+                len,
+                token,
+            } => format!(
+                "leaf {} {start} {len} {:?} of token {token}",
                 names::tree_kind(kind.into()),
                 part(formula, start as u32, len as u32)
             ),

@@ -12,6 +12,7 @@ use std::process::ExitCode;
 use answers::{with_deep_stack, Fault, Run, Spec};
 use cases::dice::Dice;
 use cases::{all_sequences, around_limits, by_chance, smallest, usual};
+use sheet::Row;
 
 #[derive(Default)]
 struct Tally {
@@ -112,7 +113,7 @@ impl Tally {
 }
 
 fn differs(run: &Run, room: usize) -> bool {
-    run.answer(room) != model::answer(&run.tables, 4 * room, None)
+    run.answer(room) != model::answer(&run.tables, Row::numbers_for(room), None)
 }
 
 fn differs_somewhere(text: &str, spec: &Spec) -> bool {

@@ -6,11 +6,9 @@ use std::path::Path;
 
 use answers::with_deep_stack;
 use cases::{
-    comment_formulas, paper_formulas, recorded_list, used_shapes, write_list, Formula, SEED,
+    comment_formulas, paper_formulas, recorded_list, used_shapes, write_list, Formula, MOST_BYTES,
+    SEED,
 };
-
-/// The size that the list may have.
-const MOST: usize = 3_000_000;
 
 fn main() -> Result<(), Box<dyn Error>> {
     let mut words = std::env::args().skip(1);
@@ -18,7 +16,8 @@ fn main() -> Result<(), Box<dyn Error>> {
     let seed = words.next().map_or(Ok(SEED), |seed| seed.parse())?;
     let cases = with_deep_stack(move || recorded_list(seed));
     let bytes = write_list(&cases);
-    assert!(bytes.len() <= MOST, "{} bytes are too many", bytes.len());
+    let fits = bytes.len() <= MOST_BYTES;
+    assert!(fits, "{} bytes are too many", bytes.len());
     std::fs::write(Path::new(&folder).join("cases.bin"), &bytes)?;
     std::fs::write(Path::new(&folder).join("formulas.md"), formulas())?;
     println!("recorded {} cases, {} bytes", cases.len(), bytes.len());

@@ -3,11 +3,7 @@
 
 use std::io::{self, Read};
 
-use sheet::{listing, Answer, Tables};
-
-/// The longest sheet, and the tree buffer in numbers.
-const SHEET: usize = 32_768;
-const ROOM: usize = 4 * 4_096;
+use sheet::{listing, Answer, Row, Tables, SHEET_BYTES, TREE_ROWS};
 
 fn main() -> io::Result<()> {
     let mut sheet = Vec::new();
@@ -17,9 +13,9 @@ fn main() -> io::Result<()> {
 }
 
 fn answer(sheet: &[u8]) -> Answer {
-    let whole = Some(sheet).filter(|sheet| sheet.len() <= SHEET);
+    let whole = Some(sheet).filter(|sheet| sheet.len() <= SHEET_BYTES);
     match whole.and_then(Tables::of_sheet) {
-        Some(tables) => model::answer(&tables, ROOM, None),
+        Some(tables) => model::answer(&tables, Row::WIDTH * TREE_ROWS, None),
         None => Answer::Refused {
             number: 9,
             place: 0,
