@@ -24,7 +24,7 @@ pub record Form : Type 0 where
   pub row : List ℕ → ℕ → List ℕ
   pub bytes : List ℕ → ℕ → ℕ
 
--- "3 or 7 a tree row: tag * 64 + kind, 2 bytes the fifth number; for a leaf also 2 bytes start and 2 bytes length"
+-- "3 or 7 a tree row: 1 byte tag * 64 + kind, 2 bytes token; for a leaf also 2 bytes start and 2 bytes length"
 abbrev pub kinds : ℕ
 kinds = 64
 

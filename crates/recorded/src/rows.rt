@@ -27,7 +27,7 @@ fn short(case: &[u8], at: usize) -> usize
     byte(case, at) * 256 + byte(case, at + 1)
 }
 
-// A row of the tree: tag and kind in one byte, the fifth number in two; a leaf's start and length in two each.
+// A row of the tree: tag and kind in one byte, its token in two; a leaf's start and length in two each.
 fn tree_row(case: &[u8], at: usize, tree: &[u32], row: usize) -> Compared
     requires { ⌜ (at < 2 ^ 38) × (row < 2 ^ 32) ⌝ }
     ensures { λ r. ⌜ Compares (at + treeForm .bytes (now (case .entry)) at) (RowIs treeForm (now (case .entry)) at (now (tree .entry)) row) r ⌝ }
