@@ -1,10 +1,13 @@
--- Demand 3 for a client of the run: whoever has an accepted answer and both buffers, and knows of them what the contract says, has the theorems about
--- the rules' run on these buffers, without a look into the parser. Assumes nothing.
+-- Demand 3, and what 02's #101 says of leaves, for a client of the run: whoever has an accepted answer and both buffers, and knows of them what the
+-- contract says, has the theorems about the rules' run on these buffers, without a look into the parser. Assumes nothing.
 use mathlib.Core.Path.{_≡_, sym, ap, _∙_}
 use mathlib.Core.List.{List}
-use Prim.Native.Nat.{ℕ}
+use Prim.Native.Nat.{ℕ, _<_}
+use lib.ListN.{length}
 use Rattle.rules.specs.Checks.{Tables}
-use Rattle.rules.specs.PutBack.{treeRows, droppedRows, leaves, Stored, stored, putBack, tokenTexts, EachToken, Rises}
+use Rattle.rules.specs.Flat.{tagLeaf}
+use Rattle.rules.specs.PutBack.{treeRows, droppedRows, leaves, Stored, stored, putBack, tokenTexts, EachToken, pieceAt, InToken, Rises}
+use Rattle.rules.specs.Questions.{tagAt}
 use Rattle.rules.specs.Run.{Ran, accepted, run}
 use Rattle.rules.specs.Exactly.{RanExactly}
 use Rattle.rules.proofs.Exactly.{run-exactly}
@@ -28,6 +31,10 @@ module _ (t : Tables) (tree dropped : List ℕ) {rows drops : ℕ} {v w : List �
   pub each-token : EachToken (t .tokens) 0 0 (leaves (treeRows rows v)) (droppedRows drops w)
   each-token = rw met at (rules.each-token t tree dropped answered)
 
+  -- "a leaf's own token" (02, #101)
+  pub leaf-token : (row : ℕ) → row < rows → tagAt v row ≡ tagLeaf → InToken (t .tokens) (pieceAt v row)
+  leaf-token = rw met at (rules.leaf-token t tree dropped answered)
+
   -- "dropped rows rise by token"
   pub dropped-rise : Rises (t .tokens) 0 (droppedRows drops w)
   dropped-rise = rw met at (rules.dropped-rise t tree dropped answered)
@@ -37,7 +44,7 @@ module _ (t : Tables) (tree dropped : List ℕ) {rows drops : ℕ} {v w : List �
   texts-return = rw met at (rules.texts-return t tree dropped answered)
 
   -- "Dropped are exactly .."
-  pub dropped-exactly : RanExactly t rows drops (ranOf (Accepted rows drops) v w)
+  pub dropped-exactly : RanExactly t (length tree) rows drops (ranOf (Accepted rows drops) v w)
   dropped-exactly = rw met at (run-exactly t tree dropped rows drops answered)
 
 -- "So two accepted inputs whose joined texts differ never share tree, leaf texts and dropped list with its texts."

@@ -17,17 +17,24 @@ use syntax::Tag;
 
 const LINE_BREAK: u8 = b'\n';
 
+// What follows the first word of a line: two numbers, and the line's end.
+fn two_numbers(out: &mut [u8], at: usize, one: usize, other: usize) -> usize
+    ensures { λ r. ⌜ Wrote (numbered (one ∷ other ∷ []) ++ (lineBreak ∷ [])) (now (out .entry)) at (now (out .exit)) r ⌝ }
+{
+    let half = field(out, at, one);
+    let whole = field(out, half, other);
+    put(out, whole, LINE_BREAK)
+}
+
 // A line of a word and two numbers.
 pub fn head(out: &mut [u8], at: usize, first: &[u8], one: usize, other: usize) -> usize
     ensures { λ r. ⌜ Wrote (line (now (first .entry)) (one ∷ other ∷ [])) (now (out .entry)) at (now (out .exit)) r ⌝ }
 {
     let named = word(out, at, first);
-    let half = field(out, named, one);
-    let whole = field(out, half, other);
-    put(out, whole, LINE_BREAK)
+    two_numbers(out, named, one, other)
 }
 
-// What follows the first word of a line: numbers, and the line's end.
+// What follows the first word of a line: numbers that stand side by side, and the line's end.
 fn rest_of_line(out: &mut [u8], at: usize, numbers: &[u32]) -> usize
     ensures { λ r. ⌜ Wrote (numbered (now (numbers .entry)) ++ (lineBreak ∷ [])) (now (out .entry)) at (now (out .exit)) r ⌝ }
 {
@@ -35,29 +42,37 @@ fn rest_of_line(out: &mut [u8], at: usize, numbers: &[u32]) -> usize
     put(out, next, LINE_BREAK)
 }
 
-// A line that begins with a depth.
-fn depth_line(out: &mut [u8], at: usize, depth: usize, numbers: &[u32]) -> usize
+// The line of a start: its depth, and the two numbers of its row that say something.
+fn start_line(out: &mut [u8], at: usize, depth: usize, kind: u32, token: u32) -> usize
+    ensures { λ r. ⌜ Wrote (line (decimal depth) (kind ∷ token ∷ [])) (now (out .entry)) at (now (out .exit)) r ⌝ }
+{
+    let next = number(out, at, depth);
+    two_numbers(out, next, kind as usize, token as usize)
+}
+
+// The line of a leaf: its depth, and the numbers of its row.
+fn leaf_line(out: &mut [u8], at: usize, depth: usize, numbers: &[u32]) -> usize
     ensures { λ r. ⌜ Wrote (line (decimal depth) (now (numbers .entry))) (now (out .entry)) at (now (out .exit)) r ⌝ }
 {
     let next = number(out, at, depth);
     rest_of_line(out, next, numbers)
 }
 
-// The line of a start: its depth and kind. A leaf's has its start and length too, and any other row has none.
+// The line of a start: its depth, kind and token. A leaf's has its start and length before the token, and any other row has none.
 fn tree_line(out: &mut [u8], at: usize, tree: &[u32], row: usize, depth: usize) -> usize
     requires { ⌜ row < rowCount (now tree) ⌝ }
     ensures { λ r. ⌜ Wrote (treeLine (now (tree .entry)) row depth) (now (out .entry)) at (now (out .exit)) r ⌝ }
 {
     let from = row * Limits::TREE_WIDTH;
     let kind = from + 1;
-    let start = from + 2;
+    let token = from + 4;
     let to = from + Limits::TREE_WIDTH;
     let tag = tree[from];
     if tag == Tag::START {
-        return depth_line(out, at, depth, &tree[kind..start]);
+        return start_line(out, at, depth, tree[kind], tree[token]);
     }
     if tag == Tag::LEAF {
-        return depth_line(out, at, depth, &tree[kind..to]);
+        return leaf_line(out, at, depth, &tree[kind..to]);
     }
     at
 }

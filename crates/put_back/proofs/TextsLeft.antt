@@ -11,7 +11,7 @@ use lib.Dec.{leb}
 use lib.ListN.{length, getD, take, drop, length-drop}
 use lib.Seq.{take-all, take-at, drop-cons, drop-drop, getD-take, getD-drop, length-sets, sets-eq}
 use Rattle.rules.specs.Flat.{tagLeaf}
-use Rattle.rules.specs.Limits
+use Rattle.rules.specs.Limits.{treeWidth, droppedWidth}
 use Rattle.rules.specs.Tables.{part}
 use Rattle.rules.specs.PutBack.{rowsOf, leaves, textsOf, tokenText, textsFrom, withTexts, droppedAfter, backFrom}
 use Rattle.rules.proofs.Characters.{either}
@@ -77,15 +77,16 @@ row-first width buffer i h = row-cell width buffer i 0 h ∙ ap (λ (k : ℕ). g
 -- ---- what was dropped behind so many leaves, from a dropped row on
 module _ (text tokens dropped : List ℕ) (drops k : ℕ) where
   abbrev pub droppedFrom : ℕ → List ℕ
-  droppedFrom i = droppedAfter k (withTexts text tokens (rowsFrom Limits.droppedWidth dropped drops i))
+  droppedFrom i = droppedAfter k (withTexts text tokens (rowsFrom droppedWidth dropped drops i))
 
-  pub dropped-here : (i : ℕ) → i < drops → getD dropped (i * 3 + 2) 0 ≡ k
-      → droppedFrom i ≡ tokenText text tokens (getD dropped (i * 3) 0) ++ droppedFrom (i + 1)
+  pub dropped-here : (i : ℕ) → i < drops → getD dropped (i * droppedWidth + 2) 0 ≡ k
+      → droppedFrom i ≡ tokenText text tokens (getD dropped (i * droppedWidth) 0) ++ droppedFrom (i + 1)
   dropped-here i h e =
-      rw (rows-next 3 dropped drops i h, row-cell 3 dropped i 2 (omega arith), row-first 3 dropped i (omega arith), eq-eqb _ _ e)
+      let next = rows-next droppedWidth dropped drops i h in
+      rw (next, row-cell droppedWidth dropped i 2 (omega arith), row-first droppedWidth dropped i (omega arith), eq-eqb _ _ e)
 
-  pub dropped-elsewhere : (i : ℕ) → i < drops → (getD dropped (i * 3 + 2) 0 ≡ k → ⊥) → droppedFrom i ≡ droppedFrom (i + 1)
-  dropped-elsewhere i h ne = rw (rows-next 3 dropped drops i h, row-cell 3 dropped i 2 (omega arith), ne-eqb _ _ ne)
+  pub dropped-elsewhere : (i : ℕ) → i < drops → (getD dropped (i * droppedWidth + 2) 0 ≡ k → ⊥) → droppedFrom i ≡ droppedFrom (i + 1)
+  dropped-elsewhere i h ne = rw (rows-next droppedWidth dropped drops i h, row-cell droppedWidth dropped i 2 (omega arith), ne-eqb _ _ ne)
 
   pub dropped-end : (i : ℕ) → drops ≤ i → droppedFrom i ≡ []
   dropped-end i h = rw (no-more drops i h)
@@ -93,17 +94,18 @@ module _ (text tokens dropped : List ℕ) (drops k : ℕ) where
 -- ---- what is put back, from a tree row on, before which there are so many leaves
 module _ (text tree : List ℕ) (rows : ℕ) (dropped : List (List ℕ × List ℕ)) where
   abbrev pub backAt : ℕ → ℕ → List ℕ
-  backAt k i = backFrom k (textsOf text (leaves (rowsFrom Limits.treeWidth tree rows i))) dropped
+  backAt k i = backFrom k (textsOf text (leaves (rowsFrom treeWidth tree rows i))) dropped
 
-  pub back-leaf : (k i : ℕ) → i < rows → getD tree (i * 4) 0 ≡ tagLeaf
-      → backAt k i ≡ droppedAfter k dropped ++ (part text (getD tree (i * 4 + 2) 0) (getD tree (i * 4 + 3) 0) ++ backAt (k + 1) (i + 1))
+  pub back-leaf : (k i : ℕ) → i < rows → getD tree (i * treeWidth) 0 ≡ tagLeaf
+      → backAt k i
+      ≡ droppedAfter k dropped ++ (part text (getD tree (i * treeWidth + 2) 0) (getD tree (i * treeWidth + 3) 0) ++ backAt (k + 1) (i + 1))
   back-leaf k i h e =
-      let leaf : getD (row 4 tree i) 0 0 ≡ tagLeaf = row-first 4 tree i (omega arith) ∙ e in
-      rw (rows-next 4 tree rows i h, leaf, row-cell 4 tree i 2 (omega arith), row-cell 4 tree i 3 (omega arith))
+      let leaf : getD (row treeWidth tree i) 0 0 ≡ tagLeaf = row-first treeWidth tree i (omega arith) ∙ e in
+      rw (rows-next treeWidth tree rows i h, leaf, row-cell treeWidth tree i 2 (omega arith), row-cell treeWidth tree i 3 (omega arith))
 
-  pub back-other : (k i : ℕ) → i < rows → (getD tree (i * 4) 0 ≡ tagLeaf → ⊥) → backAt k i ≡ backAt k (i + 1)
+  pub back-other : (k i : ℕ) → i < rows → (getD tree (i * treeWidth) 0 ≡ tagLeaf → ⊥) → backAt k i ≡ backAt k (i + 1)
   back-other k i h ne =
-      rw (rows-next 4 tree rows i h, row-first 4 tree i (omega arith), ne-eqb _ _ ne)
+      rw (rows-next treeWidth tree rows i h, row-first treeWidth tree i (omega arith), ne-eqb _ _ ne)
 
   pub back-end : (k i : ℕ) → rows ≤ i → backAt k i ≡ droppedAfter k dropped
   back-end k i h = rw (no-more rows i h)

@@ -10,9 +10,10 @@ use native.Mathlib.Nat.{add-zero, add-assoc}
 use native.Mathlib.Omega.{arith}
 use lib.ListN.{length, getD, drop, length-append, length-drop}
 use lib.Seq.{drop-drop, drop-append-seam, getD-drop}
-use Rattle.rules.specs.Flat.{tagFinish, leafRow, startRow, finishRow}
+use Rattle.rules.specs.Flat.{tagFinish, startRow, finishRow, withToken, rowOf}
+use Rattle.rules.specs.Builder.{Leaf}
 use Rattle.rules.specs.Limits
-use Rattle.rules.specs.Questions.{rowCount, tagAt, tagged, rangeAt, openAfter, balance, formula, firstToken, lastToken, firstFrom, lastBefore, firstLeaf, firstOf, lastLeaf, lastOf, leafAt, display, inline, matched, isDisplay, isInline, isValid}
+use Rattle.rules.specs.Questions.{rowCount, tagAt, tagged, rangeAt, openAfter, balance, formula, firstToken, lastToken, firstFrom, lastBefore, firstLeaf, firstOf, lastLeaf, lastOf, ofLeaf, leafAt, display, inline, matched, isDisplay, isInline, isValid}
 use Rattle.rules.proofs.Questions.{balance-on, balance-here, first-next, first-end, last-step}
 use Rattle.rules.specs.SyntaxKind.{ItemFormula}
 use Rattle.rules.specs.Tables.{cell}
@@ -38,11 +39,11 @@ module _ {tree : List ℕ} {row : ℕ} (a b : List ℕ) (s : Stands tree row (a 
       }
 
 -- one row
-module _ {tree : List ℕ} {row tag kind from size : ℕ} (s : Stands tree row (tag ∷ kind ∷ from ∷ size ∷ [])) where
+module _ {tree : List ℕ} {row tag kind from size token : ℕ} (s : Stands tree row (tag ∷ kind ∷ from ∷ size ∷ token ∷ [])) where
   there : row < rowCount tree
   there = omega (arith, ap length (s .is), length-drop (row * Limits.treeWidth) tree)
 
-  number : (column : ℕ) → cell Limits.treeWidth tree row column ≡ getD (tag ∷ kind ∷ from ∷ size ∷ s .rest) column 0
+  number : (column : ℕ) → cell Limits.treeWidth tree row column ≡ getD (tag ∷ kind ∷ from ∷ size ∷ token ∷ s .rest) column 0
   number column = sym (getD-drop (row * Limits.treeWidth) tree column 0) ∙ ap (λ (l : List ℕ). getD l column 0) (s .is)
 
   tag-there : tag ≡ tagAt tree row
@@ -51,8 +52,8 @@ module _ {tree : List ℕ} {row tag kind from size : ℕ} (s : Stands tree row (
 -- ---- how many rows a tree takes
 unfoldable mutual
   pub size : Tree → ℕ
-  size (leaf kind from long) = 1
-  size (node kind children) = 1 + sizes children + 1
+  size (leaf l) = 1
+  size (node kind from to children) = 1 + sizes children + 1
 
   pub sizes : Forest → ℕ
   sizes Forest.none = 0
@@ -62,8 +63,8 @@ mutual
   unfolding layout layouts size sizes
 
   length-layout : (t : Tree) → length (layout t) ≡ size t * Limits.treeWidth
-  length-layout (leaf kind from long) = refl
-  length-layout (node kind children) =
+  length-layout (leaf l) = refl
+  length-layout (node kind from to children) =
       let inside = length-layouts children in
       simp length-append (omega arith)
 
@@ -75,19 +76,23 @@ mutual
       simp length-append (omega arith)
 
 -- ---- the rows of a node: its start, its children, its finish
-pub record Node (tree : List ℕ) (at kind : ℕ) (children : Forest) : Type 0 where
-  pub start : Stands tree at (startRow kind)
+pub record Node (tree : List ℕ) (at kind from to : ℕ) (children : Forest) : Type 0 where
+  pub start : Stands tree at (withToken from (startRow kind))
   pub inside : Stands tree (at + 1) (layouts children)
-  pub finish : Stands tree (at + 1 + sizes children) (finishRow kind)
+  pub finish : Stands tree (at + 1 + sizes children) (withToken to (finishRow kind))
 
-node-rows : {tree : List ℕ} {at : ℕ} (kind : ℕ) (children : Forest) → Stands tree at (layout (node kind children)) → Node tree at kind children
+node-rows : {tree : List ℕ} {at : ℕ} (kind from to : ℕ) (children : Forest)
+    → Stands tree at (layout (node kind from to children))
+    → Node tree at kind from to children
 unfolding layout
-node-rows kind children s =
-    let behind = stands-then (startRow kind) (layouts children ++ finishRow kind) s 1 refl in
+node-rows kind from to children s =
+    let first = withToken from (startRow kind) in
+    let last = withToken to (finishRow kind) in
+    let behind = stands-then first (layouts children ++ last) s 1 refl in
     record {
-      start = stands-first (startRow kind) (layouts children ++ finishRow kind) s;
-      inside = stands-first (layouts children) (finishRow kind) behind;
-      finish = stands-then (layouts children) (finishRow kind) behind (sizes children) (length-layouts children);
+      start = stands-first first (layouts children ++ last) s;
+      inside = stands-first (layouts children) last behind;
+      finish = stands-then (layouts children) last behind (sizes children) (length-layouts children);
     }
 
 -- the rows of a first child and of those behind it
@@ -105,7 +110,10 @@ split child rest s =
 
 -- ---- the matching finish: the rows of whole trees are passed, and what is open stays open
 module _ (tree : List ℕ) where
-  pass-row : {at tag kind from long : ℕ} (deep : ℕ) → Stands tree at (tag ∷ kind ∷ from ∷ long ∷ []) → tag ≤ tagFinish → (openAfter tag deep ≡ 0 → ⊥)
+  pass-row : {at tag kind from long token : ℕ} (deep : ℕ)
+      → Stands tree at (tag ∷ kind ∷ from ∷ long ∷ token ∷ [])
+      → tag ≤ tagFinish
+      → (openAfter tag deep ≡ 0 → ⊥)
       → balance tree (rowCount tree - at) at deep ≡ balance tree (rowCount tree - (at + 1)) (at + 1) (openAfter tag deep)
   pass-row {at} deep s = balance-on tree (rowCount tree) at deep (tag-there s) (there s)
 
@@ -114,9 +122,9 @@ module _ (tree : List ℕ) where
 
     pass-tree : (t : Tree) (at deep : ℕ) → Stands tree at (layout t) → 0 < deep
         → balance tree (rowCount tree - at) at deep ≡ balance tree (rowCount tree - (at + size t)) (at + size t) deep
-    pass-tree (leaf kind from long) at deep s deeper = pass-row deep s (omega arith) (omega arith)
-    pass-tree (node kind children) at deep s deeper =
-        let rows = node-rows kind children s in
+    pass-tree (leaf l) at deep s deeper = pass-row deep s (omega arith) (omega arith)
+    pass-tree (node kind from to children) at deep s deeper =
+        let rows = node-rows kind from to children s in
         let back : deep + 1 - 1 ≡ deep = omega arith in
         let here : at + 1 + sizes children + 1 ≡ at + (1 + sizes children + 1) = omega arith in
         pass-row deep (rows .start) (omega arith) (omega arith)
@@ -132,10 +140,9 @@ module _ (tree : List ℕ) where
         pass-tree child at deep (parts .first) deeper ∙ pass-forest rest (at + size child) deep (parts .others) deeper ∙ rw add-assoc
 
   -- what a leaf's row says
-  leaf-found : {at kind from long : ℕ} → Stands tree at (leafRow kind from long)
-      → leafAt tree (some at) ≡ some (kind, record { start = from; size = long })
+  leaf-found : {at : ℕ} (l : Leaf) → Stands tree at (rowOf l) → leafAt tree (some at) ≡ ofLeaf l
   unfolding tagged rangeAt
-  leaf-found {at} s = rw (lt-ltb at (rowCount tree) (there s), number s 0, number s 1, number s 2, number s 3)
+  leaf-found {at} l s = rw (lt-ltb at (rowCount tree) (there s), number s 0, number s 1, number s 2, number s 3)
 
   -- ---- the first token: up to a row that is not before the end of the first child
   module _ (to : ℕ) where
@@ -143,15 +150,18 @@ module _ (tree : List ℕ) where
       unfolding layout layouts size sizes firstLeaf firstOf
 
       first-tree : (t : Tree) (at : ℕ) → Stands tree at (layout t) → at + size t ≤ to → leafAt tree (firstFrom tree (to - at) at) ≡ firstLeaf t
-      first-tree (leaf kind from long) at s fits =
-          ap (leafAt tree) (first-next tree to at (tag-there s) (omega arith)) ∙ leaf-found s
-      first-tree (node kind children) at s fits =
-          let rows = node-rows kind children s in
+      first-tree (leaf l) at s fits =
+          ap (leafAt tree) (first-next tree to at (tag-there s) (omega arith)) ∙ leaf-found l s
+      first-tree (node kind from place children) at s fits =
+          let rows = node-rows kind from place children s in
           ap (leafAt tree) (first-next tree to at (tag-there (rows .start)) (omega arith))
           ∙ first-inside children (at + 1) (rows .inside) (rows .finish) (omega arith)
 
-      first-inside : (f : Forest) (at : ℕ) {kind : ℕ} → Stands tree at (layouts f) → Stands tree (at + sizes f) (finishRow kind)
-          → at + sizes f < to → leafAt tree (firstFrom tree (to - at) at) ≡ firstOf f
+      first-inside : (f : Forest) (at : ℕ) {kind place : ℕ}
+          → Stands tree at (layouts f)
+          → Stands tree (at + sizes f) (withToken place (finishRow kind))
+          → at + sizes f < to
+          → leafAt tree (firstFrom tree (to - at) at) ≡ firstOf f
       first-inside Forest.none at s end fits = ap (leafAt tree) (first-next tree to at (tag-there (rw add-zero at end)) (omega arith))
       first-inside (more child rest) at s end fits = first-tree child at (split child rest s .first) (omega arith)
 
@@ -160,9 +170,9 @@ module _ (tree : List ℕ) where
     unfolding layout layouts size sizes lastLeaf lastOf
 
     last-tree : (t : Tree) (at : ℕ) → Stands tree at (layout t) → leafAt tree (lastBefore tree (at + size t)) ≡ lastLeaf t
-    last-tree (leaf kind from long) at s = ap (leafAt tree) (last-step tree at (tag-there s)) ∙ leaf-found s
-    last-tree (node kind children) at s =
-        let rows = node-rows kind children s in
+    last-tree (leaf l) at s = ap (leafAt tree) (last-step tree at (tag-there s)) ∙ leaf-found l s
+    last-tree (node kind from to children) at s =
+        let rows = node-rows kind from to children s in
         let here : at + (1 + sizes children + 1) ≡ at + 1 + sizes children + 1 = omega arith in
         ap (λ (end : ℕ). leafAt tree (lastBefore tree end)) here
         ∙ ap (leafAt tree) (last-step tree (at + 1 + sizes children) (tag-there (rows .finish)))
@@ -184,9 +194,9 @@ pub record Tokens (tree : List ℕ) (row : ℕ) (t : Tree) : Type 0 where
   pub first : leafAt tree (firstToken tree row) ≡ firstLeaf t
   pub last : leafAt tree (lastToken tree row) ≡ lastLeaf t
 
-module _ (tree : List ℕ) (row : ℕ) (children : Forest) (s : Stands tree row (layout (node ItemFormula children))) where
-  rows : Node tree row ItemFormula children
-  rows = node-rows ItemFormula children s
+module _ (tree : List ℕ) (row from to : ℕ) (children : Forest) (s : Stands tree row (layout (node ItemFormula from to children))) where
+  rows : Node tree row ItemFormula from to children
+  rows = node-rows ItemFormula from to children s
 
   formula-is : formula tree row ≡ some (row + 1 + sizes children)
   unfolding formula tagged openAfter
@@ -200,7 +210,7 @@ module _ (tree : List ℕ) (row : ℕ) (children : Forest) (s : Stands tree row 
   first-all Forest.none at inside = ap (leafAt tree) (first-end tree (at + 0) at (omega arith))
   first-all (more child rest) at inside = first-tree tree (at + sizes (more child rest)) child at (split child rest inside .first) (omega arith)
 
-  tokens : Tokens tree row (node ItemFormula children)
+  tokens : Tokens tree row (node ItemFormula from to children)
   unfolding firstToken lastToken firstLeaf lastLeaf
   tokens =
       record {
@@ -218,14 +228,15 @@ pub record Answers (text tree : List ℕ) (row : ℕ) (t : Tree) : Type 0 where
   pub valid : isValid text tree row ≡ matched text (firstLeaf t) (lastLeaf t)
 
 -- in rows that hold the node's, whatever stands before and behind
-pub on-trees : (text before after : List ℕ) (row : ℕ) (children : Forest) → length before ≡ row * Limits.treeWidth
-    → Answers text (before ++ (layout (node ItemFormula children) ++ after)) row (node ItemFormula children)
-on-trees text before after row children long =
-    let rows = layout (node ItemFormula children) in
+pub on-trees : (text before after : List ℕ) (row from to : ℕ) (children : Forest)
+    → length before ≡ row * Limits.treeWidth
+    → Answers text (before ++ (layout (node ItemFormula from to children) ++ after)) row (node ItemFormula from to children)
+on-trees text before after row from to children long =
+    let rows = layout (node ItemFormula from to children) in
     let tree = before ++ (rows ++ after) in
     let stands : Stands tree row rows =
     record { rest = after; is = ap (λ (k : ℕ). drop k tree) (sym long) ∙ drop-append-seam before (rows ++ after) } in
-    let found = tokens tree row children stands in
+    let found = tokens tree row from to children stands in
     record {
       display = ap (display text) (found .first);
       inline = ap (inline text) (found .first);

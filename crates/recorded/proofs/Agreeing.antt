@@ -9,6 +9,7 @@ use borrow.Author.Tests.{eqb-true, eq-eqb, ne-eqb}
 use lib.Dec.{eqb}
 use lib.ListN.{length, take, drop, replicate, take-append-drop}
 use lib.Seq.{take-at, drop-at}
+use Rattle.rules.specs.Limits.{treeWidth, droppedWidth}
 use Rattle.rules.specs.Run.{Answer, accepted, refusedAt, Ran, over}
 use Rattle.rules.specs.Sheet.{numberAt}
 use Rattle.rules.proofs.Characters.{either}
@@ -62,8 +63,8 @@ module _ (case : List ℕ) (at : ℕ) (tree dropped : List ℕ) (rows drops : �
     pub tree-rows : RowsAre treeForm case (at + 12) tree rows
     pub dropped-rows : RowsAre droppedForm case (rowsEnd treeForm case (at + 12) rows) dropped drops
     pub ends : rowsEnd droppedForm case (rowsEnd treeForm case (at + 12) rows) drops ≡ length case
-    pub tree-rest : AllFrom tree (rows * 4) before
-    pub dropped-rest : AllFrom dropped (drops * 3) before
+    pub tree-rest : AllFrom tree (rows * treeWidth) before
+    pub dropped-rest : AllFrom dropped (drops * droppedWidth) before
 
   abbrev next : ℕ
   next = rowsEnd treeForm case (at + 12) rows
@@ -74,10 +75,10 @@ module _ (case : List ℕ) (at : ℕ) (tree dropped : List ℕ) (rows drops : �
   abbrev others : List ℕ
   others = rowsAt droppedForm case next drops
 
-  trees-long : length trees ≡ rows * 4
+  trees-long : length trees ≡ rows * treeWidth
   trees-long = rows-long true case (at + 12) rows
 
-  others-long : length others ≡ drops * 3
+  others-long : length others ≡ drops * droppedWidth
   others-long = rows-long false case next drops
 
   pub agrees-accepted : AsAccepted → Accepts

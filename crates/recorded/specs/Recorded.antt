@@ -24,7 +24,7 @@ pub record Form : Type 0 where
   pub row : List ℕ → ℕ → List ℕ
   pub bytes : List ℕ → ℕ → ℕ
 
--- "1 or 5 a tree row: tag * 64 + kind; for a leaf also 2 bytes start and 2 bytes length"
+-- "3 or 7 a tree row: 1 byte tag * 64 + kind, 2 bytes token; for a leaf also 2 bytes start and 2 bytes length"
 abbrev pub kinds : ℕ
 kinds = 64
 
@@ -36,8 +36,13 @@ treeForm =
     record {
       width = treeWidth;
       row = λ case at.
-          getD case at 0 / kinds ∷ getD case at 0 % kinds ∷ ifLeaf case at (shortAt case (at + 1)) 0 ∷ ifLeaf case at (shortAt case (at + 3)) 0 ∷ [];
-      bytes = λ case at. ifLeaf case at 5 1;
+          getD case at 0 / kinds
+          ∷ getD case at 0 % kinds
+          ∷ ifLeaf case at (shortAt case (at + 3)) 0
+          ∷ ifLeaf case at (shortAt case (at + 5)) 0
+          ∷ shortAt case (at + 1)
+          ∷ [];
+      bytes = λ case at. ifLeaf case at 7 3;
     }
 
 -- "7 a dropped row: 2 bytes token, 1 byte reason, 4 bytes leaves"

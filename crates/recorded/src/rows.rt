@@ -27,28 +27,30 @@ fn short(case: &[u8], at: usize) -> usize
     byte(case, at) * 256 + byte(case, at + 1)
 }
 
-// A row of the tree: tag and kind in one byte; a leaf's start and length in two each.
+// A row of the tree: tag and kind in one byte, its token in two; a leaf's start and length in two each.
 fn tree_row(case: &[u8], at: usize, tree: &[u32], row: usize) -> Compared
     requires { ⌜ (at < 2 ^ 38) × (row < 2 ^ 32) ⌝ }
     ensures { λ r. ⌜ Compares (at + treeForm .bytes (now (case .entry)) at) (RowIs treeForm (now (case .entry)) at (now (tree .entry)) row) r ⌝ }
 {
     let tag_and_kind = byte(case, at);
+    let token = short(case, at + 1);
     let from = row * Limits::TREE_WIDTH;
     if tag_and_kind / KINDS == wide(Tag::LEAF) {
         let leaf = [
             tag_and_kind / KINDS,
             tag_and_kind % KINDS,
-            short(case, at + 1),
             short(case, at + 3),
+            short(case, at + 5),
+            token,
         ];
         if stand_at(tree, from, &leaf) {
-            return Compared::Same(at + 5);
+            return Compared::Same(at + 7);
         }
         return Compared::Differs;
     }
-    let other = [tag_and_kind / KINDS, tag_and_kind % KINDS, 0, 0];
+    let other = [tag_and_kind / KINDS, tag_and_kind % KINDS, 0, 0, token];
     if stand_at(tree, from, &other) {
-        return Compared::Same(at + 1);
+        return Compared::Same(at + 3);
     }
     Compared::Differs
 }

@@ -34,7 +34,7 @@ pub record Judges (case : List ℕ) (at : ℕ) (text tokens : List ℕ) (ran : R
 
 -- ---- of a case
 
--- the largest tree buffer: "its answer at most 4,096 tree rows"
+-- the largest tree buffer: "its room at most 16,384 numbers"
 abbrev pub mostRoom : ℕ
 mostRoom = 16384
 
@@ -42,7 +42,7 @@ mostRoom = 16384
 abbrev pub tablesIn : List ℕ → Option Tables
 tablesIn case = cond (leb (sheetEnd case) (length case) && leb (roomOf case) mostRoom) (read (sheetOf case)) none
 
--- "A replay lends a tree buffer of `room` numbers and a dropped buffer of 3 numbers a token."
+-- "A replay lends a tree buffer of `room` numbers, five a row, and a dropped buffer of 3 numbers a token."
 abbrev pub treeBefore : List ℕ → List ℕ
 treeBefore case = replicate (roomOf case) before
 

@@ -1,5 +1,5 @@
 -- A sheet's tables are the parts that the program cuts out; what is printed of it is the listing of its run, or of refusal 9; and the lines of every
--- answer have room, since no row has more than four numbers of 32 bits. Assumes nothing.
+-- answer have room, since no row's line has more than five numbers of 32 bits. Assumes nothing.
 use Prim.Native.Nat.{ℕ, _+_, _*_, _-_, _≤_}
 use mathlib.Core.Bool.{true, false}
 use mathlib.Core.List.{List}

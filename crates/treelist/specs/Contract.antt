@@ -1,4 +1,4 @@
--- The program's buffers, of the sizes that document 01 gives, in which every answer's lines have room; and lines that are printed into one.
+-- The program's buffers, of the sizes that documents 01 and 02 give, in which every answer's lines have room; and lines that are printed into one.
 use Prim.Native.Nat.{ℕ, _*_, _≤_}
 use mathlib.Core.List.{List}
 use mathlib.Core.Path.{_≡_}

@@ -15,8 +15,8 @@ impl Sizes {
     pub const SHEET: usize = Sections::MOST_BYTES + 1;
     // "numbers 4 bytes": as many as a sheet has room for.
     pub const TABLE: usize = Sections::MOST_NUMBERS;
-    // "It has 4,096 tree rows."
-    pub const TREE_ROWS: usize = 4_096;
+    // "now with 3,276 tree rows" (02, #101)
+    pub const TREE_ROWS: usize = 3_276;
 
     pub const TREE: usize = Self::TREE_ROWS * Limits::TREE_WIDTH;
     // "3 numbers per token": a dropped row for each token that a sheet has room for.

@@ -1,6 +1,6 @@
 -- `tree_line` meets its contract: its tests are the rule's, and the numbers that it hands on are the row's. Assumes nothing.
 use Prim.Native.Nat.{ℕ, _+_, _*_, _-_, _^_, _<_}
-use mathlib.Core.List.{List}
+use mathlib.Core.List.{List, [], _∷_}
 use mathlib.Core.Path.{_≡_, sym, _∙_}
 use native.Mathlib.Omega.{arith}
 use borrow.Author.Needs.{needs}
@@ -17,22 +17,24 @@ use Rattle.listings.proofs.lines.tree_line.Statement.{statement}
 use Rattle.listings.proofs.lines.tree_line.Tie as tie
 
 module _ (tree : List ℕ) (row depth : ℕ) (there : row < rowCount tree) where
-  -- where the row begins; and a line of the depth and the row's numbers, from its kind up to another
+  -- where the row begins; and a line of the depth and these numbers
   abbrev from : ℕ
   from = row * treeWidth
 
-  abbrev Row : ℕ → List ℕ → ℕ → List ℕ → ℕ → Type 0
-  Row to out at v r = Wrote (line (decimal depth) (part tree (from + 1) (to - (from + 1)))) out at v r
+  abbrev Line : List ℕ → List ℕ → ℕ → List ℕ → ℕ → Type 0
+  Line numbers out at v r = Wrote (line (decimal depth) numbers) out at v r
 
-  a-start : getD tree from 0 ≡ tagStart → {out v : List ℕ} {at r : ℕ} → Row (from + 2) out at v r → Wrote (treeLine tree row depth) out at v r
-  a-start starts put =
-      let one : from + 2 - (from + 1) ≡ 1 = omega arith in
-      rw (start-line tree row depth there (tag-first tree row ∙ starts)) (rw one at put)
+  a-start : getD tree from 0 ≡ tagStart → {out v : List ℕ} {at r : ℕ}
+      → Line (getD tree (from + 1) 0 ∷ getD tree (from + 4) 0 ∷ []) out at v r
+      → Wrote (treeLine tree row depth) out at v r
+  a-start starts put = rw (start-line tree row depth there (tag-first tree row ∙ starts)) put
 
-  a-leaf : getD tree from 0 ≡ tagLeaf → {out v : List ℕ} {at r : ℕ} → Row (from + treeWidth) out at v r → Wrote (treeLine tree row depth) out at v r
+  a-leaf : getD tree from 0 ≡ tagLeaf → {out v : List ℕ} {at r : ℕ}
+      → Line (part tree (from + 1) (from + treeWidth - (from + 1))) out at v r
+      → Wrote (treeLine tree row depth) out at v r
   a-leaf leaf put =
-      let three : from + treeWidth - (from + 1) ≡ 3 = omega arith in
-      rw (leaf-line tree row depth there (tag-first tree row ∙ leaf)) (rw three at put)
+      let four : from + treeWidth - (from + 1) ≡ 4 = omega arith in
+      rw (leaf-line tree row depth there (tag-first tree row ∙ leaf)) (rw four at put)
 
   no-row : (getD tree from 0 ≡ tagStart → ⊥) → (getD tree from 0 ≡ tagLeaf → ⊥) → (out : List ℕ) (at : ℕ) → at < 2 ^ 64
       → Wrote (treeLine tree row depth) out at out at

@@ -1,14 +1,16 @@
 -- `back::put_back` meets its contract. The loop's invariant: whatever writes what is put back from a tree row on has written all of it; there are no
 -- more leaves than rows before it. Assumes nothing.
 use mathlib.Core.List.{List}
-use mathlib.Core.Path.{_≡_, _∙_}
+use mathlib.Core.Path.{_≡_, ap, _∙_}
 use Prim.Native.Nat.{ℕ, _+_, _*_, _-_, _^_, _≤_, _<_}
 use borrow.Author.Needs.{needs}
 use native.Mathlib.Nat.{sub-zero}
 use native.Mathlib.Omega.{arith}
 use lib.ListN.{length, getD}
 use Rattle.rules.specs.Flat.{tagLeaf}
-use Rattle.rules.specs.PutBack.{withTexts, droppedRows, droppedAfter}
+use Rattle.rules.specs.Limits.{treeWidth}
+use Rattle.rules.specs.PutBack.{withTexts, treeRows, droppedRows, droppedAfter, backFrom}
+use Rattle.rules.proofs.PutBack.{four-texts}
 use Rattle.rules.specs.Tables.{part}
 use Rattle.listings.specs.Contract.{Wrote}
 use Rattle.listings.proofs.Writing.{Left, begins, turns, goes, closes}
@@ -29,8 +31,12 @@ module _ (text tokens tree : List ℕ) (rows : ℕ) (dropped : List ℕ) (drops 
     few : leaves ≤ row
     left : Left (backAt text tree rows notes leaves row) out next whole out₀ 0
 
+  -- the texts of the leaves are read off whole rows
+  all-rows : whole ≡ backAt text tree rows notes 0 0
+  all-rows = ap (λ (texts : List (List ℕ)). backFrom 0 texts notes) (four-texts text (treeRows rows tree)) ∙ rw sub-zero
+
   opens : (out : List ℕ) → length out * 1 < 2 ^ 63 → Rest 0 0 out 0 out
-  opens out short = record { few = omega arith; left = turns (rw sub-zero) (begins whole (omega arith) (omega arith)) }
+  opens out short = record { few = omega arith; left = turns all-rows (begins whole (omega arith) (omega arith)) }
 
   module _ {leaves row next : ℕ} {out out₀ : List ℕ} (rest : Rest leaves row out next out₀) where
     kept : (v : List ℕ) → length v ≡ length out → length v ≡ length out₀
@@ -40,19 +46,19 @@ module _ (text tokens tree : List ℕ) (rows : ℕ) (dropped : List ℕ) (drops 
     all done wrote = closes (turns (back-end text tree rows notes leaves row done) (rest .left)) wrote
 
     module _ (more : row < rows) where
-      no-leaf : (getD tree (row * 4) 0 ≡ tagLeaf → ⊥) → Rest leaves (row + 1) out next out₀
+      no-leaf : (getD tree (row * treeWidth) 0 ≡ tagLeaf → ⊥) → Rest leaves (row + 1) out next out₀
       no-leaf other =
           let few = rest .few in
           record { few = omega arith; left = turns (back-other text tree rows notes leaves row more other) (rest .left) }
 
-      leaf : {v w : List ℕ} {half r : ℕ} → getD tree (row * 4) 0 ≡ tagLeaf → Wrote (droppedAfter leaves notes) out next v half
-          → Wrote (part text (getD tree (row * 4 + 2) 0) (getD tree (row * 4 + 2 + 1) 0)) v half w r
+      leaf : {v w : List ℕ} {half r : ℕ} → getD tree (row * treeWidth) 0 ≡ tagLeaf → Wrote (droppedAfter leaves notes) out next v half
+          → Wrote (part text (getD tree (row * treeWidth + 2) 0) (getD tree (row * treeWidth + 2 + 1) 0)) v half w r
           → Rest (leaves + 1) (row + 1) w r out₀
       leaf is before wrote =
           let few = rest .few in
-          let third : row * 4 + 2 + 1 ≡ row * 4 + 3 = omega arith in
+          let fourth : row * treeWidth + 2 + 1 ≡ row * treeWidth + 3 = omega arith in
           let this = turns (back-leaf text tree rows notes leaves row more is) (rest .left) in
-          record { few = omega arith; left = goes (goes this before) (rw third at wrote) }
+          record { few = omega arith; left = goes (goes this before) (rw fourth at wrote) }
 
 abbrev Inv-loop : tie.InvT-loop
 Inv-loop out₀ text tokens tree rows dropped drops next₀ leaves₀ row₀ out next leaves row =

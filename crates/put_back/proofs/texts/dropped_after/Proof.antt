@@ -7,6 +7,7 @@ use borrow.Author.Needs.{needs}
 use native.Mathlib.Nat.{sub-zero}
 use native.Mathlib.Omega.{arith}
 use lib.ListN.{getD}
+use Rattle.rules.specs.Limits.{droppedWidth}
 use Rattle.rules.specs.PutBack.{tokenText, withTexts, droppedRows, droppedAfter}
 use Rattle.listings.specs.Contract.{Wrote}
 use Rattle.listings.proofs.Writing.{Left, begins, turns, goes, ends}
@@ -26,11 +27,12 @@ module _ (text tokens dropped : List ℕ) (drops leaves : ℕ) where
     all : drops ≤ row → Wrote whole out₀ at out next
     all done = ends (turns (dropped-end text tokens dropped drops leaves row done) rest)
 
-    module _ (more : row < drops) {before : ℕ} (before-is : before ≡ getD dropped (row * 3 + 2) 0) where
+    module _ (more : row < drops) {before : ℕ} (before-is : before ≡ getD dropped (row * droppedWidth + 2) 0) where
       elsewhere : (before ≡ leaves → ⊥) → Rest (row + 1) out next out₀ at
       elsewhere other = turns (dropped-elsewhere text tokens dropped drops leaves row more (λ e. other (before-is ∙ e))) rest
 
-      here : {index r : ℕ} {v : List ℕ} → before ≡ leaves → index ≡ getD dropped (row * 3) 0 → Wrote (tokenText text tokens index) out next v r
+      here : {index r : ℕ} {v : List ℕ} → before ≡ leaves → index ≡ getD dropped (row * droppedWidth) 0
+          → Wrote (tokenText text tokens index) out next v r
           → Rest (row + 1) v r out₀ at
       here same index-is wrote =
           goes (turns (dropped-here text tokens dropped drops leaves row more (sym before-is ∙ same)) rest) (rw index-is at wrote)

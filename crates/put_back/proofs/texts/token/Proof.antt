@@ -5,6 +5,7 @@ use Prim.Native.Nat.{ℕ, _+_, _*_}
 use borrow.Author.Needs.{needs}
 use native.Mathlib.Omega.{arith}
 use lib.ListN.{getD}
+use Rattle.rules.specs.Limits.{tokenWidth}
 use Rattle.rules.specs.PutBack.{tokenText}
 use Rattle.rules.specs.Tables.{part}
 use Rattle.listings.specs.Contract.{Wrote}
@@ -12,9 +13,9 @@ use Rattle.put_back.proofs.texts.token.Statement.{statement}
 use Rattle.put_back.proofs.texts.token.Tie as tie
 
 in-row : (text tokens : List ℕ) (index : ℕ) {out after : List ℕ} {at next : ℕ}
-    → Wrote (part text (getD tokens (index * 4 + 1) 0) (getD tokens (index * 4 + 1 + 1) 0)) out at after next
+    → Wrote (part text (getD tokens (index * tokenWidth + 1) 0) (getD tokens (index * tokenWidth + 1 + 1) 0)) out at after next
     → Wrote (tokenText text tokens index) out at after next
-in-row text tokens index wrote = let second : index * 4 + 1 + 1 ≡ index * 4 + 2 = omega arith in rw second at wrote
+in-row text tokens index wrote = let second : index * tokenWidth + 1 + 1 ≡ index * tokenWidth + 2 = omega arith in rw second at wrote
 
 pub token-spec : {M : Type 1} → statement M
 token-spec =

@@ -8,6 +8,7 @@ use borrow.Author.Needs.{needs}
 use borrow.Author.Tests.{not-true, not-false}
 use native.Mathlib.Omega.{arith}
 use lib.ListN.{length}
+use Rattle.rules.specs.Limits.{treeWidth, droppedWidth}
 use Rattle.rules.specs.Sheet.{numberAt}
 use Rattle.recorded.specs.Compared.{Compares, RowsAre}
 use Rattle.recorded.specs.Recorded.{treeForm, droppedForm, rowsEnd, before}
@@ -55,15 +56,15 @@ module _ (case : List ℕ) (at : ℕ) (tree dropped : List ℕ) (rows drops : �
         ends-elsewhere : (end ≡ length case → ⊥) → Tells Yes false
         ends-elsewhere other = no-if (λ k. other (end-is ∙ k .ends))
 
-        module _ (ends : end ≡ length case) {r : Bool} (tree-rest : Tells (AllFrom tree (rows * 4) before) r) where
+        module _ (ends : end ≡ length case) {r : Bool} (tree-rest : Tells (AllFrom tree (rows * treeWidth) before) r) where
           tree-goes-on : not r ≡ true → Tells Yes false
           tree-goes-on is = no-if (λ k. tree-rest .no (not-true r is) (k .tree-rest))
 
           all : {n m l : ℕ} {s : Bool} → not r ≡ false → n ≡ numberAt case at → n ≡ 0 → m ≡ numberAt case (at + 4) → rows ≡ m
-              → l ≡ numberAt case (at + 8) → drops ≡ l → Tells (AllFrom dropped (drops * 3) before) s
+              → l ≡ numberAt case (at + 8) → drops ≡ l → Tells (AllFrom dropped (drops * droppedWidth) before) s
               → Tells Yes s
           all is none-is none row-count row-count-is drop-count drop-count-is rest =
-              let whole : AllFrom dropped (drops * 3) before → AsAccepted case at tree dropped rows drops = λ dropped-rest.
+              let whole : AllFrom dropped (drops * droppedWidth) before → AsAccepted case at tree dropped rows drops = λ dropped-rest.
               record {
                 none = sym none-is ∙ none;
                 row-count = row-count-is ∙ row-count;
@@ -74,7 +75,7 @@ module _ (case : List ℕ) (at : ℕ) (tree dropped : List ℕ) (rows drops : �
                 tree-rest = tree-rest .yes (not-false r is);
                 dropped-rest = dropped-rest;
               } in
-              let last : Yes → AllFrom dropped (drops * 3) before = λ k. accepted-agrees case at tree dropped rows drops k .dropped-rest in
+              let last : Yes → AllFrom dropped (drops * droppedWidth) before = λ k. accepted-agrees case at tree dropped rows drops k .dropped-rest in
               tells-as (λ p. agrees-accepted case at tree dropped rows drops (whole p)) last rest
 
 -- rows end not far behind their place

@@ -5,6 +5,7 @@ use mathlib.Core.List.{List, [], _∷_}
 use mathlib.Core.Path.{_≡_, refl}
 use borrow.Author.Needs.{needs}
 use lib.ListN.{getD}
+use Rattle.rules.specs.Limits.{droppedWidth}
 use Rattle.rules.specs.Sheet.{numberAt}
 use Rattle.rules.specs.Tables.{part}
 use Rattle.compare.specs.Tells.{Tells}
@@ -17,7 +18,7 @@ use Rattle.recorded.proofs.rows.dropped_row.Tie as tie
 
 module _ (case dropped : List ℕ) (at row : ℕ) {token reason leaves : ℕ} {r : Bool} (token-is : token ≡ shortAt case at)
     (reason-is : reason ≡ getD case (at + 2) 0) (leaves-is : leaves ≡ numberAt case (at + 3))
-    (stand : Tells (part dropped (row * 3) 3 ≡ (token ∷ reason ∷ leaves ∷ [])) r) where
+    (stand : Tells (part dropped (row * droppedWidth) droppedWidth ≡ (token ∷ reason ∷ leaves ∷ [])) r) where
   told : Tells (RowIs droppedForm case at dropped row) r
   told = rw (token-is, reason-is, leaves-is) at stand
 
