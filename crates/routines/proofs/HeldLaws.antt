@@ -227,9 +227,9 @@ module _ (tokens : List ℕ) (p : Parser) (tree : List ℕ) where
       → Told (λ n. position.leaf (flat n) leaf) (λ u. Leafed q after u last) q (with-notes after notes) r (with-notes last notes)
 
   module _ {after : List ℕ} {q : Parser} {i : ℕ} (far : Extracting after q i) where
-    module _ (more : i < p .lexer .token) (few : p .lexer .token ≤ Limits.tokens) {kind start size : ℕ} (kind-is : kind ≡ leafKind (kindAt tokens i)) (start-is : start ≡ startAt tokens i)
-        (size-is : size ≡ lengthAt tokens i) {r : Step} {last : List ℕ}
-        (wrote : Wrote q after (record { token = i; kind = kind; start = start; size = size }) r last) where
+    module _ (more : i < p .lexer .token) (few : p .lexer .token ≤ Limits.tokens) {kind start size : ℕ}
+        (kind-is : kind ≡ leafKind (kindAt tokens i)) (start-is : start ≡ startAt tokens i) (size-is : size ≡ lengthAt tokens i)
+        {r : Step} {last : List ℕ} (wrote : Wrote q after (record { token = i; kind = kind; start = start; size = size }) r last) where
       abbrev this : Leaf
       this = record { token = i; kind = kind; start = start; size = size }
 

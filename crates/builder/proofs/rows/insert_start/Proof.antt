@@ -18,8 +18,8 @@ returns c =
     let stored = c .before .before in
     let shifted = moved stored in
     let x = entry shifted .args in
-    in-front (x .part .now) (shifted .shift .last .0) _ (withToken (x .place) (startRow (x .kind))) treeWidth (entry shifted .pre) (shifted .shift .ensures)
-    (stored .put .ensures)
+    let row = withToken (x .place) (startRow (x .kind)) in
+    in-front (x .part .now) (shifted .shift .last .0) _ row treeWidth (entry shifted .pre) (shifted .shift .ensures) (stored .put .ensures)
 
 pub insert-start-spec : {M : Type 1} → statement M
 insert-start-spec = tie.close (tie.spec (λ c κs. search needs) (λ c κs. search needs) (λ c. search needs) returns)

@@ -31,4 +31,6 @@ returns c notes own few =
     (λ u e. leafed _ _ _ notes u (leafs (returns→entry c .pre) e (built .kept .1 .0) _ _ did))
 
 pub leaf-of-spec : {M : Type 1} → statement M
-leaf-of-spec = tie.close (tie.spec (λ c κs. search needs) (λ c κs. search needs) (λ c κs. search needs) (λ c κs. search needs) (λ c. search needs) returns)
+leaf-of-spec =
+    tie.close
+    (tie.spec (λ c κs. search needs) (λ c κs. search needs) (λ c κs. search needs) (λ c κs. search needs) (λ c. search needs) returns)
