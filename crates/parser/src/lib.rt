@@ -644,7 +644,11 @@ fn content(
     let item = item_of(kind);
     match item {
         Item::Plain => eat(tokens, tree, p),
-        Item::Error => one_in(tokens, tree, p, SyntaxKind::TOKEN_ERROR),
+        Item::Error => {
+            // Only for speed: see above.
+            let copy = p;
+            one_in(tokens, tree, copy, SyntaxKind::TOKEN_ERROR).again()
+        }
         Item::Word | Item::Comma => clauses::text(tokens, tree, p),
         Item::Group(scope) => {
             // Only for speed: see above.

@@ -227,7 +227,8 @@ impl Parser {
         next
     }
 
-    // What the builder came to, with all else as it is. Written by its fields: a copy of the state that is changed would go through memory.
+    // What the builder came to, with all else as it is. Written by its fields, the list's too: a copy of the state that is changed, or of its list in
+    // one piece, would go through memory.
     fn building(self, built: Built) -> Step
         ensures { λ r. ⌜ r ≡ buildingOf self built ⌝ }
     {
@@ -235,10 +236,22 @@ impl Parser {
             Built::Went(builder) => {
                 let lexer = self.lexer;
                 let list = self.list;
+                let start = list.start;
+                let last = list.last;
                 Step::Went(Parser {
                     lexer,
                     held: self.held,
-                    list,
+                    list: ListState {
+                        scope: list.scope,
+                        start: KeptMark {
+                            children: start.children,
+                            row: start.row,
+                        },
+                        last: KeptMark {
+                            children: last.children,
+                            row: last.row,
+                        },
+                    },
                     builder,
                     dropped: self.dropped,
                 })

@@ -98,8 +98,9 @@ meets t =
     -- eat
     (λ c κs. let given = eat-arg→entry c .pre .1 in (given .1, somehow refl (given .0)))
     (λ c. search needs)
-    -- one_in, text
+    -- one_in, again, text
     (λ c κs. let given = one-in-arg→entry c .pre .1 in (given .1, somehow refl (given .0)))
+    (λ c κs. search needs)
     (λ c κs. let given = text-arg→entry c .pre .1 in (given .1, somehow refl (given .0)))
     (λ c. search needs)
     -- item_group, again
@@ -128,10 +129,11 @@ meets t =
     known (returns→item-of c) (returns→told c .enum-told .given .1)
     (ran-runs refl (returns→entry c .pre .1 .0) (returns→eat c .eat .ensures _)))
     -- behind one_in
-    (λ c. returns-2→one-in c .one-in .kept .1 .0)
+    (λ c. again→one-in c .one-in .kept .1 .0)
     (λ c.
-    known (returns-2→item-of c) (returns-2→told2 c .enum-told2 .given .1)
-    (ran-runs refl (returns-2→entry c .pre .1 .0) (returns-2→one-in c .one-in .ensures _)))
+    rw (c .again .ensures)
+    (known (again→item-of c) (again→told2 c .enum-told2 .given .1)
+    (ran-runs refl (again→entry c .pre .1 .0) (again→one-in c .one-in .ensures _))))
     -- behind text
     (λ c. returns-3→text c .text .kept .1 .0)
     (λ c.
@@ -139,9 +141,9 @@ meets t =
     ⊎-elim (λ e. known (returns-3→item-of c) e read) (λ e. known (returns-3→item-of c) e read)
     (text-item (returns-3→item-of c .item-of .result) (returns-3→match-keys3 c .match .keys3)))
     -- behind item_group
-    (λ c. of-tree (again→item-group c .item-group .kept))
-    (λ c. of-dropped (again→item-group c .item-group .kept))
-    (λ c. rw (c .again .ensures) (known (again→item-of c) (again→item c .item .given .1) (again→item-group c .item-group .ensures)))
+    (λ c. of-tree (again2→item-group c .item-group .kept))
+    (λ c. of-dropped (again2→item-group c .item-group .kept))
+    (λ c. rw (c .again2 .ensures) (known (again2→item-of c) (again2→item c .item .given .1) (again2→item-group c .item-group .ensures)))
     -- behind attach_component
     (λ c. of-tree (returns-5→attach-component c .attach-component .kept))
     (λ c. of-dropped (returns-5→attach-component c .attach-component .kept))

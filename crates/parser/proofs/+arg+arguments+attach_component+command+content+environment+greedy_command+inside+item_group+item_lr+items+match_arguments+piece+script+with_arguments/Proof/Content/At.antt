@@ -30,12 +30,12 @@ claims t = (
   eat-reads.Learnt,
   one-in-reads.Asked,
   one-in-reads.Learnt,
+  again-reads.Asked,
+  again-reads.Learnt,
   text-reads.Asked,
   text-reads.Learnt,
   measures.item-group .below t,
   item-group.Post,
-  again-reads.Asked,
-  again-reads.Learnt,
   measures.attach-component .below t,
   attach-component.Post,
   measures.command .below t,
@@ -81,17 +81,17 @@ module _ {t : ℕ} where
   abbrev pub one-in-arg→entry : Place lts.After-one-in-arg t → Place lts.Start t
   one-in-arg→entry c = c .before .before .before .before .before .before .before .before .before .before .before
 
-  abbrev pub returns-2→one-in : Place lts.After-slice-known4 t → Place lts.After-one-in t
-  returns-2→one-in c = c .before .before
+  abbrev pub again→one-in : Place lts.After-again t → Place lts.After-one-in t
+  again→one-in c = c .before .before .before
 
-  abbrev pub returns-2→told2 : Place lts.After-slice-known4 t → Place lts.After-enum-told2 t
-  returns-2→told2 c = c .before .before .before .before
+  abbrev pub again→told2 : Place lts.After-again t → Place lts.After-enum-told2 t
+  again→told2 c = c .before .before .before .before .before
 
-  abbrev pub returns-2→item-of : Place lts.After-slice-known4 t → Place lts.After-item-of t
-  returns-2→item-of c = c .before .before .before .before .before .before
+  abbrev pub again→item-of : Place lts.After-again t → Place lts.After-item-of t
+  again→item-of c = c .before .before .before .before .before .before .before
 
-  abbrev pub returns-2→entry : Place lts.After-slice-known4 t → Place lts.Start t
-  returns-2→entry c = item-of→entry (returns-2→item-of c)
+  abbrev pub again→entry : Place lts.After-again t → Place lts.Start t
+  again→entry c = item-of→entry (again→item-of c)
 
   abbrev pub text-arg→entry : Place lts.After-text-arg t → Place lts.Start t
   text-arg→entry c = c .before .before .before .before .before .before .before .before .before .before
@@ -111,14 +111,14 @@ module _ {t : ℕ} where
   abbrev pub item-group-arg2→entry : Place lts.After-item-group-arg2 t → Place lts.Start t
   item-group-arg2→entry c = c .before .before .before .before .before .before .before .before .before .before .before .before .before
 
-  abbrev pub again→item-group : Place lts.After-again t → Place lts.After-item-group t
-  again→item-group c = c .before .before .before .before .before
+  abbrev pub again2→item-group : Place lts.After-again2 t → Place lts.After-item-group t
+  again2→item-group c = c .before .before .before .before .before
 
-  abbrev pub again→item : Place lts.After-again t → Place lts.After-item t
-  again→item c = c .before .before .before .before .before .before .before .before .before
+  abbrev pub again2→item : Place lts.After-again2 t → Place lts.After-item t
+  again2→item c = c .before .before .before .before .before .before .before .before .before
 
-  abbrev pub again→item-of : Place lts.After-again t → Place lts.After-item-of t
-  again→item-of c = c .before .before .before .before .before .before .before .before .before .before .before
+  abbrev pub again2→item-of : Place lts.After-again2 t → Place lts.After-item-of t
+  again2→item-of c = c .before .before .before .before .before .before .before .before .before .before .before
 
   abbrev pub attach-component-arg2→entry : Place lts.After-attach-component-arg2 t → Place lts.Start t
   attach-component-arg2→entry c = c .before .before .before .before .before .before .before .before .before .before .before .before .before
