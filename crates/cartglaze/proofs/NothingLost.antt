@@ -6,7 +6,7 @@ use Prim.Native.Nat.{ℕ, _<_}
 use lib.ListN.{length}
 use Rattle.rules.specs.Checks.{Tables}
 use Rattle.rules.specs.Flat.{tagLeaf}
-use Rattle.rules.specs.PutBack.{treeRows, droppedRows, leaves, Stored, stored, putBack, tokenTexts, EachToken, pieceAt, InToken, Rises}
+use Rattle.rules.specs.PutBack.{treeRows, droppedRows, leaves, Stored, stored, putBack, tokenTexts, EachToken, stretchAt, InToken, Rises}
 use Rattle.rules.specs.Questions.{tagAt}
 use Rattle.rules.specs.Run.{Ran, accepted, run}
 use Rattle.rules.specs.Exactly.{RanExactly}
@@ -32,7 +32,7 @@ module _ (t : Tables) (tree dropped : List ℕ) {rows drops : ℕ} {v w : List �
   each-token = rw met at (rules.each-token t tree dropped answered)
 
   -- "a leaf's own token" (02, #101)
-  pub leaf-token : (row : ℕ) → row < rows → tagAt v row ≡ tagLeaf → InToken (t .tokens) (pieceAt v row)
+  pub leaf-token : (row : ℕ) → row < rows → tagAt v row ≡ tagLeaf → InToken (t .tokens) (stretchAt v row)
   leaf-token = rw met at (rules.leaf-token t tree dropped answered)
 
   -- "dropped rows rise by token"

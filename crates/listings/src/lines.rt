@@ -58,7 +58,7 @@ fn leaf_line(out: &mut [u8], at: usize, depth: usize, numbers: &[u32]) -> usize
     rest_of_line(out, next, numbers)
 }
 
-// The line of a start: its depth, kind and token. A leaf's has its start and length before the token, and any other row has none.
+// The line of a row: of a start its depth, kind and token, of a leaf also start and length before the token, of any other row none.
 fn tree_line(out: &mut [u8], at: usize, tree: &[u32], row: usize, depth: usize) -> usize
     requires { ⌜ row < rowCount (now tree) ⌝ }
     ensures { λ r. ⌜ Wrote (treeLine (now (tree .entry)) row depth) (now (out .entry)) at (now (out .exit)) r ⌝ }

@@ -67,6 +67,7 @@ use syntax::Token;
 //                 reading into the loop;
 //   25.2 / 32.5   `again` takes a step of a callee apart and puts it together: it can then lie in registers;
 //   25.2 / 27.9   `content` hands a copy of its state to `item_group`;
+//   18.3 / 29.0   both for `one_in` too, which with a row's fifth number has grown too large to be put in place;
 //   22.9 / 25.2   `script` asks for a Word before it passes trivia: most scripts are one character, and then no routine is called that the state
 //                 would have to lie in memory for.
 // Two more stand in crates/builder and crates/state: docs/DECISIONS.md, 'Only for speed'.

@@ -16,7 +16,7 @@ use Rattle.rules.specs.Flat.{Rows, Mark, Frame, Built, withToken, startR
 use Rattle.rules.specs.Limits.{treeWidth, droppedWidth, nodes}
 use Rattle.rules.specs.Outcome.{Out, went, markBeforeNode, tooManyOpen, noRoom}
 use Rattle.rules.specs.Position.{Source}
-use Rattle.rules.specs.PutBack.{rowsOf, Piece, leaves}
+use Rattle.rules.specs.PutBack.{rowsOf, Stretch, leaves}
 use Rattle.rules.specs.Reading.{parse}
 use Rattle.rules.specs.Tables.{tokenCount}
 use Rattle.rules.proofs.Characters.{either}
@@ -142,8 +142,8 @@ insert-size row numbers tree =
     omega arith
 
 -- a leaf as its row tells it
-abbrev pieceFrom : Leaf → Piece
-pieceFrom l = record { start = l .start; size = l .size; token = l .token }
+abbrev stretchFrom : Leaf → Stretch
+stretchFrom l = record { start = l .start; size = l .size; token = l .token }
 
 -- ---- tests that let an operation through
 
@@ -206,14 +206,14 @@ module _ (room : ℕ) (source : Source) where
 
   -- a leaf is the next of the leaves
   leafed : (place : ℕ) (l : Leaf) {b : Built} {c c′ : Cursor} (h : HasRead source c b)
-      → Reached source (h .ls ++ (pieceFrom l ∷ [])) (h .ds) c′
+      → Reached source (h .ls ++ (stretchFrom l ∷ [])) (h .ds) c′
       → Goes (HasRead source c′) (flat room .leaf place l b)
   unfolding Flat.leaf Flat.leafed
   leafed place l {b} h reached =
       let t = Flat.leafed l (b .tree) in
-      let more : Behind (b .tree) t (rowOf l) (pieceFrom l ∷ []) = record { rows = refl; tree = refl; leaves = refl; long = refl; is = refl } in
+      let more : Behind (b .tree) t (rowOf l) (stretchFrom l ∷ []) = record { rows = refl; tree = refl; leaves = refl; long = refl; is = refl } in
       onTree-if b (roomy place (b .tree) t (record {
-        ls = h .ls ++ (pieceFrom l ∷ []);
+        ls = h .ls ++ (stretchFrom l ∷ []);
         ds = h .ds;
         tied = behind b t (h .tied) more refl;
         reached = reached;

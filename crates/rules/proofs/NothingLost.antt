@@ -13,7 +13,7 @@ use Rattle.rules.specs.Flat.{Built, Mark, tagLeaf, flat, empty}
 use Rattle.rules.specs.Limits.{treeWidth, droppedWidth}
 use Rattle.rules.specs.Outcome.{Out, went, refused}
 use Rattle.rules.specs.Position.{Pos}
-use Rattle.rules.specs.PutBack.{treeRows, droppedRows, leaves, textsOf, Stored, stored, putBack, tokenTexts, EachToken, pieceAt, InToken, Rises}
+use Rattle.rules.specs.PutBack.{treeRows, droppedRows, leaves, textsOf, Stored, stored, putBack, tokenTexts, EachToken, stretchAt, InToken, Rises}
 use Rattle.rules.specs.Questions.{tagAt}
 use Rattle.rules.specs.Reading.{parse}
 use Rattle.rules.specs.Run.{accepted, over, afterReading, afterChecks, run}
@@ -85,7 +85,7 @@ module _ (t : Tables) (tree dropped : List ℕ) {rows drops : ℕ} (e : run t tr
   pub leaf-token : (row : ℕ)
       → row < rows
       → tagAt (run t tree dropped .tree) row ≡ tagLeaf
-      → InToken (t .tokens) (pieceAt (run t tree dropped .tree) row)
+      → InToken (t .tokens) (stretchAt (run t tree dropped .tree) row)
   leaf-token = leaf-inside rows (run t tree dropped .tree) each-token
 
   -- dropped rows rise by token

@@ -15,14 +15,14 @@ use Rattle.rules.specs.Cursor.{Cursor, atStart, restStart, restLength, p
 use Rattle.rules.specs.Flat.{droppedRow}
 use Rattle.rules.specs.Limits
 use Rattle.rules.specs.Position.{Source}
-use Rattle.rules.specs.PutBack.{Piece, Parts, last, more, EachToken, end, leaf, split, drops}
+use Rattle.rules.specs.PutBack.{Stretch, Parts, last, more, EachToken, end, leaf, split, drops}
 use Rattle.rules.specs.Tables.{tokenCount, kindAt, startAt, lengthAt, part}
 use Rattle.rules.specs.Token
 use Rattle.rules.proofs.Characters.{either}
 
 -- leaves by start, length and token, and dropped rows
 abbrev pub Leaves : Type 0
-Leaves = List Piece
+Leaves = List Stretch
 
 abbrev pub Dropped : Type 0
 Dropped = List (List ℕ)
@@ -74,8 +74,8 @@ module _ (source : Source) where
   size c = restLength (source .tokens) c
 
   -- the next so many bytes of it, as a leaf
-  abbrev pub pieceOf : Cursor → ℕ → Piece
-  pieceOf c n = record { start = start c; size = n; token = c .token }
+  abbrev pub stretchOf : Cursor → ℕ → Stretch
+  stretchOf c n = record { start = start c; size = n; token = c .token }
 
   -- from a token on, behind so many leaves, each token is a leaf, the parts of a split Word or a dropped row
   abbrev Each : ℕ → ℕ → Leaves → Dropped → Type 0
@@ -87,14 +87,14 @@ module _ (source : Source) where
         → Reached leaves dropped c
         → There c
         → Standing c
-        → Reached (leaves ++ (pieceOf c (size c) ∷ [])) dropped (eaten c)
+        → Reached (leaves ++ (stretchOf c (size c) ∷ [])) dropped (eaten c)
     takes-part : {leaves : Leaves} {dropped : Dropped} {c : Cursor} {n : ℕ}
         → Reached leaves dropped c
         → There c
         → AtWord c
         → 1 ≤ n
         → n < size c
-        → Reached (leaves ++ (pieceOf c n ∷ [])) dropped (partly c n)
+        → Reached (leaves ++ (stretchOf c n ∷ [])) dropped (partly c n)
     drops-it : {leaves : Leaves} {dropped : Dropped} {c : Cursor} (reason : ℕ)
         → Reached leaves dropped c
         → There c
@@ -131,7 +131,7 @@ module _ (source : Source) where
 
     module _ {k : ℕ} {leaves : Leaves} {dropped : Dropped} where
       -- what is left of a token is a leaf
-      from-rest : There c → Standing c → Each (c .token + 1) (k + 1) leaves dropped → From c k (pieceOf c (size c) ∷ leaves) dropped
+      from-rest : There c → Standing c → Each (c .token + 1) (k + 1) leaves dropped → From c k (stretchOf c (size c) ∷ leaves) dropped
       from-rest there stands each =
           either (eqb (c .taken) 0)
           (λ e. let none = eqb-true (c .taken) 0 e in rw (whole-start none, whole-length none) (at none (leaf there each)))
@@ -155,11 +155,11 @@ module _ (source : Source) where
         → 1 ≤ n
         → n < size c
         → From (partly c n) (k + 1) leaves dropped
-        → From c k (pieceOf c n ∷ leaves) dropped
+        → From c k (stretchOf c n ∷ leaves) dropped
     from-part n there word some less (at e each) = absurd (omega arith)
     from-part {k} n there word some less (within {parts} taken are each) =
         let count : k + 1 + length parts ≡ k + suc (length parts) = omega arith in
-        let all : Parts (c .token) (start c) (size c) (pieceOf c n ∷ parts) = rw (next-length n less) (more some (rw (next-start n) at are)) in
+        let all : Parts (c .token) (start c) (size c) (stretchOf c n ∷ parts) = rw (next-length n less) (more some (rw (next-start n) at are)) in
         either (eqb (c .taken) 0)
         (λ e.
         let none = eqb-true (c .taken) 0 e in
@@ -174,9 +174,9 @@ module _ (source : Source) where
   told nothing (at e each) = each
   told nothing (within some are each) = absurd (omega arith)
   told {leaves′} (takes-rest {leaves} {c} reached there stands) from =
-      rw (append-snoc leaves (pieceOf c (size c)) leaves′) (told reached (from-rest c there stands (rw length-append at (behind c from))))
+      rw (append-snoc leaves (stretchOf c (size c)) leaves′) (told reached (from-rest c there stands (rw length-append at (behind c from))))
   told {leaves′} (takes-part {leaves} {c} {n} reached there word some less) from =
-      rw (append-snoc leaves (pieceOf c n) leaves′) (told reached (from-part c n there word some less (rw length-append at from)))
+      rw (append-snoc leaves (stretchOf c n) leaves′) (told reached (from-part c n there word some less (rw length-append at from)))
   told {dropped′} (drops-it {leaves} {dropped} {c} reason reached there whole) from =
       rw (append-snoc dropped (droppedRow (c .token) reason (length leaves)) dropped′) (told reached (at whole (drops there (behind c from))))
 

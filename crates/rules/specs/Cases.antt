@@ -72,7 +72,7 @@ cases =
       room = 1000;
       expected = gives 3 (Root apostrophe) "0 0 1" [];
     }
-    -- `a_b` with 54 numbers of room, in 01 43: refused 8 at 3
+    -- `a_b` with 54 numbers of room (01: 43): refused 8 at 3
     ∷ record {
       formula = Word of "a" ∷ Underscore of "_" ∷ Word of "b" ∷ [];
       shapes = [];
@@ -80,7 +80,7 @@ cases =
       room = 54;
       expected = refuses 8 3;
     }
-    -- with 55, in 01 44, accepted: Root[Attach[Arg[Text a] _ b]], 11 rows
+    -- with 55 (01: 44) accepted: Root[Attach[Arg[Text a] _ b]], 11 rows
     ∷ record {
       formula = Word of "a" ∷ Underscore of "_" ∷ Word of "b" ∷ [];
       shapes = [];

@@ -24,21 +24,22 @@ treeRows rows buffer = rowsOf Limits.treeWidth rows buffer
 abbrev pub droppedRows : ℕ → List ℕ → List (List ℕ)
 droppedRows drops buffer = rowsOf Limits.droppedWidth drops buffer
 
--- of a leaf: where its text starts, how long it is, and its token
-pub record Piece : Type 0 where
+-- a stretch of the text, and the token that it is of: of a leaf where its text starts, how long it is, and its token
+pub record Stretch : Type 0 where
   pub start : ℕ
   pub size : ℕ
   pub token : ℕ
 
--- "Tree row: tag (0 start, 1 leaf, 2 finish), kind, start, length", and a leaf's own token: of each leaf, in row order
-abbrev pub leaves : List (List ℕ) → List Piece
+-- "Tree row: tag (0 start, 1 leaf, 2 finish), kind, start, length", and a leaf's own token, which is 0 where a row has only the first four numbers: of
+-- each leaf, in row order
+abbrev pub leaves : List (List ℕ) → List Stretch
 leaves [] = []
 leaves (row ∷ rows) =
     cond (eqb (getD row 0 0) tagLeaf) (record { start = getD row 2 0; size = getD row 3 0; token = getD row 4 0 } ∷ leaves rows) (leaves rows)
 
 -- the text of each leaf
-abbrev pub textsOf : List ℕ → List Piece → List (List ℕ)
-textsOf text leaves = map (λ (l : Piece). part text (l .start) (l .size)) leaves
+abbrev pub textsOf : List ℕ → List Stretch → List (List ℕ)
+textsOf text leaves = map (λ (l : Stretch). part text (l .start) (l .size)) leaves
 
 abbrev pub tokenText : List ℕ → List ℕ → ℕ → List ℕ
 tokenText text tokens i = part text (startAt tokens i) (lengthAt tokens i)
@@ -90,33 +91,33 @@ tokenTexts text tokens = textsFrom text tokens 0 (tokenCount tokens)
 -- ---- token by token
 
 -- the parts of a token's range: none is empty, each begins where the one before it ends, and the last ends where the range does. Each has the token
-pub data Parts (token : ℕ) : ℕ → ℕ → List Piece → Type 0 where
+pub data Parts (token : ℕ) : ℕ → ℕ → List Stretch → Type 0 where
   last : {start size : ℕ} → 1 ≤ size → Parts token start size (record { start = start; size = size; token = token } ∷ [])
-  more : {start size rest : ℕ} {parts : List Piece} → 1 ≤ size
+  more : {start size rest : ℕ} {parts : List Stretch} → 1 ≤ size
       → Parts token (start + size) rest parts
       → Parts token start (size + rest) (record { start = start; size = size; token = token } ∷ parts)
 
 -- each token from the i-th on is a leaf, the parts of a split Word, or one dropped row, and there are no other leaves and dropped rows. Before them
 -- k leaves were written, which is what a dropped row says of itself; a leaf says its token. So no token is passed over and none comes twice, whatever
 -- their ranges are
-pub data EachToken (tokens : List ℕ) : ℕ → ℕ → List Piece → List (List ℕ) → Type 0 where
+pub data EachToken (tokens : List ℕ) : ℕ → ℕ → List Stretch → List (List ℕ) → Type 0 where
   end : {i k : ℕ} → i ≡ tokenCount tokens → EachToken tokens i k [] []
-  leaf : {i k : ℕ} {leaves : List Piece} {dropped : List (List ℕ)} → i < tokenCount tokens
+  leaf : {i k : ℕ} {leaves : List Stretch} {dropped : List (List ℕ)} → i < tokenCount tokens
       → EachToken tokens (i + 1) (k + 1) leaves dropped
       → EachToken tokens i k (record { start = startAt tokens i; size = lengthAt tokens i; token = i } ∷ leaves) dropped
-  split : {i k : ℕ} {parts leaves : List Piece} {dropped : List (List ℕ)}
+  split : {i k : ℕ} {parts leaves : List Stretch} {dropped : List (List ℕ)}
       → i < tokenCount tokens
       → kindAt tokens i ≡ Token.Word
       → Parts i (startAt tokens i) (lengthAt tokens i) parts
       → EachToken tokens (i + 1) (k + length parts) leaves dropped
       → EachToken tokens i k (parts ++ leaves) dropped
-  drops : {i k reason : ℕ} {leaves : List Piece} {dropped : List (List ℕ)} → i < tokenCount tokens
+  drops : {i k reason : ℕ} {leaves : List Stretch} {dropped : List (List ℕ)} → i < tokenCount tokens
       → EachToken tokens (i + 1) k leaves dropped
       → EachToken tokens i k leaves (droppedRow i reason k ∷ dropped)
 
--- a leaf as its row tells it
-abbrev pub pieceAt : List ℕ → ℕ → Piece
-pieceAt tree row =
+-- a leaf as its row tells it, by the row's number
+abbrev pub stretchAt : List ℕ → ℕ → Stretch
+stretchAt tree row =
     record {
       start = cell Limits.treeWidth tree row 2;
       size = cell Limits.treeWidth tree row 3;
@@ -124,7 +125,7 @@ pieceAt tree row =
     }
 
 -- a leaf lies inside the range of its token
-pub record InToken (tokens : List ℕ) (l : Piece) : Type 0 where
+pub record InToken (tokens : List ℕ) (l : Stretch) : Type 0 where
   pub there : l .token < tokenCount tokens
   pub low : startAt tokens (l .token) ≤ l .start
   pub high : l .start + l .size ≤ startAt tokens (l .token) + lengthAt tokens (l .token)

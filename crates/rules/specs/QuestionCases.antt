@@ -98,11 +98,11 @@ cases =
     ∷ formulaAt 0 (bare (leafRow TokenDollar 0 1 ∷ leafRow TokenDollar 1 1 ∷ finishRow ItemFormula ∷ [])) "$" (false, true, false)
     ∷ formulaAt 0 (bare (leafRow TokenDollar 1 1 ∷ leafRow TokenDollar 0 1 ∷ finishRow ItemFormula ∷ [])) "$" noFormula
     -- a leaf that ends with the text, one that ends a byte later, and one of no bytes at the text's end
-    ∷ leafAt 0 (withToken 9 (leafRow TokenWord 1 1)) "ab" (true, 1, 1)
-    ∷ leafAt 0 (withToken 9 (leafRow TokenWord 1 2)) "ab" noLeaf
-    ∷ leafAt 0 (withToken 9 (leafRow TokenWord 2 0)) "ab" (true, 2, 0)
+    ∷ leafAt 0 (joined (leafRow TokenWord 1 1 ∷ [])) "ab" (true, 1, 1)
+    ∷ leafAt 0 (joined (leafRow TokenWord 1 2 ∷ [])) "ab" noLeaf
+    ∷ leafAt 0 (joined (leafRow TokenWord 2 0 ∷ [])) "ab" (true, 2, 0)
     -- start and length that pass 32 bits together
-    ∷ leafAt 0 (withToken 9 (leafRow TokenWord 1 0xFFFF_FFFF)) "ab" noLeaf
+    ∷ leafAt 0 (joined (leafRow TokenWord 1 0xFFFF_FFFF ∷ [])) "ab" noLeaf
     ∷ []
 
 -- what is asked of a row, and what is expected

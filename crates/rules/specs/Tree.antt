@@ -7,7 +7,7 @@ use Rattle.rules.specs.Flat.{leafRow, startRow, finishRow, withToken, ro
 mutual
   -- a leaf as it was handed over, with its token; or a node with its kind, `from`, `to` and its children. `from` is the place at which it was begun,
   -- and `to` the place at which it was ended: the first token that was not wholly read then. Held trivia counts as read, so a command's `to` lies
-  -- behind the blanks that it passed and left, which follow its node as leaves.
+  -- behind the blanks that it passed and left, which follow its node as leaves; the last case of `Cases` shows it.
   --     \f 1   and a blank behind it, tokens 0 to 3:   node Cmd 0 4 (leaf of 0, node Arg 2 3 (leaf of 2)), leaf of 3
   pub data Tree : Type 0 where
     leaf : Leaf → Tree

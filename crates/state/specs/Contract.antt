@@ -226,7 +226,7 @@ abbrev pub Goes : (Tables → Type 0) → Moments → Moments → Parser → Ste
 Goes sees tree dropped p r gain rule =
     Ran sees gain rule p (buffers (tree .entry .now) (dropped .entry .now)) r (buffers (tree .exit .now) (dropped .exit .now))
 
--- a leaf of a token that was passed or is next, where there are no more tokens than may be
+-- a leaf of a token that was passed or is next, while the cursor is within the limit of tokens
 abbrev pub Leafs : Moments → Parser → Step → Leaf → Type 0
 Leafs tree p r leaf =
     (notes : List ℕ)

@@ -270,7 +270,7 @@ impl Parser {
         self.leaf_of(tree, self.lexer.token, kind, start, size)
     }
 
-    // A leaf of a token that was passed before.
+    // A leaf of a token that was passed before, or is next.
     pub fn leaf_of(self, tree: &mut [u32], token: usize, kind: u32, start: u32, size: u32) -> Step
         requires { ⌜ Fits (self .builder) (now tree) ⌝ }
         ensures { λ r. ⌜ Leafs tree self r (record { token = token; kind = kind; start = start; size = size }) ⌝ }
