@@ -86,6 +86,7 @@ abbrev pub popped : ℕ → List Parent → List Tree → List Parent × List Tr
 popped place [] children = ([], children)
 popped place (p ∷ ps) children = (ps, take (p .first) children ++ (nodeOf (p .kind) (p .from) place (drop (p .first) children) ∷ []))
 
+-- so the innermost open node ends, at a place
 unfoldable pub closed : ℕ → Green → Green
 closed place g =
     let left = popped place (g .parents) (g .children) in
