@@ -3,6 +3,7 @@
 use mathlib.Core.Path.{_≡_, refl, sym, ap, _∙_}
 use mathlib.Core.List.{List, [], _++_}
 use Prim.Native.Nat.{ℕ, _+_, _*_, _-_, _/_, _≤_, _<_}
+use native.Mathlib.Nat.{add-zero}
 use native.Mathlib.Omega.{arith}
 use lib.ListN.{length, take, drop}
 use lib.Seq.{drop-drop}
@@ -10,18 +11,16 @@ use borrow.Author.Tests.{eq-eqb, ne-eqb}
 use borrow.Rule.Slice.PartMut.{putMid}
 use Rattle.rules.specs.Builder.{Leaf}
 use Rattle.rules.specs.Limits.{treeWidth, nodes}
-use Rattle.rules.specs.Outcome.{Out, went, refused}
+use Rattle.rules.specs.Outcome.{went}
 use Rattle.rules.specs.SyntaxKind.{ClauseArgument}
 use Rattle.rules.specs.Flat as flat
-use Rattle.rules.proofs.Flat.{leaf-goes, start-goes, finish-goes, wrap-finish}
-use Rattle.builder.specs.Stands.{rowsOf, markOf, frameOf, outOf}
-use Rattle.builder.specs.Contract.{Did, Fits, Inside, Leaves, Opened, StartRow, Within, written}
+use Rattle.rules.proofs.Flat.{leaf-goes, start-goes, finish-goes, wrapOpened, wrapEnded, wrap-finish}
+use Rattle.builder.specs.Stands.{rowsOf, markOf}
+use Rattle.builder.specs.Contract.{Allowed, Did, StartRow, inFront, startRows, written}
 use Rattle.builder.specs.declared.Checkpoint.{Checkpoint}
-use Rattle.builder.specs.declared.Frame as code
 use Rattle.builder.specs.declared.GreenNodeBuilder.{GreenNodeBuilder}
-use Rattle.builder.specs.declared.Built.{Built}
-use Rattle.builder.specs.declared.Built.the-variants.{Went, Refused}
-use Rattle.builder.proofs.Numbers.{next-row, one-more, the-rest, Returned, inserted, behind}
+use Rattle.builder.specs.declared.Built.the-variants.{Went}
+use Rattle.builder.proofs.Numbers.{one-more, the-rest, all-in, in-front, lent, moved-down}
 
 -- ---- a row behind the others
 
@@ -99,57 +98,15 @@ module _ (b : GreenNodeBuilder) (t v : List ℕ) (free : b .rows < length t / tr
 -- ---- a node that begins at a mark
 
 module _ (b : GreenNodeBuilder) (t : List ℕ) (m : Checkpoint) where
-  pub at-first : m .children ≡ b .first → b .first ≤ b .node → b .node < b .rows → StartRow b t m (b .node + 1)
+  pub at-first : m .children ≡ b .first → b .node < b .rows → StartRow b t m (b .node + 1)
   unfolding flat.startAtRow
-  at-first e low high = record { is = rw (eq-eqb (m .children) (b .first) e); low = omega arith; high = omega arith }
+  at-first e high = record { is = rw (eq-eqb (m .children) (b .first) e); high = omega arith }
 
-  pub at-mark : (m .children ≡ b .first → ⊥) → m .children ≤ m .row → m .row ≤ b .rows → StartRow b t m (m .row)
+  pub at-mark : (m .children ≡ b .first → ⊥) → m .row ≤ b .rows → StartRow b t m (m .row)
   unfolding flat.startAtRow
-  at-mark e low high = record { is = rw (ne-eqb (m .children) (b .first) e); low = low; high = high }
+  at-mark e high = record { is = rw (ne-eqb (m .children) (b .first) e); high = high }
 
--- the rows from row a on moved down, and the node's start row stands there
-module _ (b : GreenNodeBuilder) (t part : List ℕ) (place kind : ℕ) (m : Checkpoint) (a : ℕ) where
-  abbrev withStartAt : GreenNodeBuilder
-  withStartAt =
-      record {
-        rows = b .rows + 1;
-        leaves = b .leaves;
-        depth = b .depth + 1;
-        children = b .children;
-        first = m .children;
-        node = a;
-      }
-
-  -- where the part that is lent on begins, and where it would end without the free row
-  abbrev begin : ℕ
-  begin = a * treeWidth
-
-  abbrev end : ℕ
-  end = b .rows * treeWidth
-
-  pub opened :
-      StartRow b [] m a
-      → end + treeWidth ≤ length t
-      → Returned begin end treeWidth t part (flat.withToken place (flat.startRow kind))
-      → Opened b t place kind m withStartAt (putMid begin (end + treeWidth - begin) t part)
-  unfolding flat.startedAt flat.startAtRow
-  opened at fit e =
-      let high = at .high in
-      let low : begin ≤ end = omega arith in
-      let row = flat.withToken place (flat.startRow kind) in
-      record {
-        is = rw (at .is, next-row treeWidth (b .rows), ← inserted begin end treeWidth t part row low fit refl e);
-        rest = rw (next-row treeWidth (b .rows)) (behind begin end treeWidth t part row low fit refl e);
-        rows = refl;
-        leaves = refl;
-        depth = refl;
-        children = refl;
-        first = refl;
-        low = at .low;
-        high = high;
-      }
-
--- ---- a wrap
+-- ---- a wrap that nothing refuses
 
 -- what two lists share behind a place, they share behind a later one
 drop-more : (n m : ℕ) (x y : List ℕ) → n ≤ m → drop n x ≡ drop n y → drop m x ≡ drop m y
@@ -157,61 +114,84 @@ drop-more n m x y le e =
     let up : n + (m - n) ≡ m = omega arith in
     rw (← up) (sym (drop-drop (m - n) n x) ∙ ap (λ (l : List ℕ). drop (m - n) l) e ∙ drop-drop (m - n) n y)
 
--- how many rows an outcome stands for
-abbrev rowsIn : Out flat.Rows → ℕ
-rowsIn (went x) = x .rows
-rowsIn (refused number place) = 0
+-- both start rows were written over what stayed where the rows moved down
+pub starts-in-front :
+    (place outer inner : ℕ) (l p q v : List ℕ)
+    → 2 * treeWidth ≤ length l
+    → p ≡ take (2 * treeWidth) l ++ take (length l - 2 * treeWidth) l
+    → q ≡ written treeWidth 0 (flat.withToken place (flat.startRow outer)) p
+    → v ≡ written treeWidth 1 (flat.withToken place (flat.startRow inner)) q
+    → v ≡ inFront treeWidth (startRows place outer inner) l
+starts-in-front place outer inner l p q v fit moved first second =
+    let behind = flat.withToken place (flat.startRow inner) in
+    second ∙ ap (λ (t : List ℕ). written treeWidth 1 behind t) first
+    ∙ in-front treeWidth (startRows place outer inner) l p (refl, (refl, tt)) fit moved
 
--- an answer that stands for rows is no refusal, and what lies behind them lay behind fewer
-rest-of :
-    (r : Built) (x : flat.Rows) (k : ℕ) (t w v : List ℕ)
-    → went x ≡ outOf r v
-    → k ≤ x .rows * treeWidth
-    → drop k w ≡ drop k t
-    → Leaves r w v
-    → Leaves r t v
-rest-of (Went u) x k t w v e le same rest =
-    let rows : x .rows ≡ u .rows = ap rowsIn e in
-    rest ∙ drop-more k (u .rows * treeWidth) w t (omega arith) same
-rest-of (Refused n a) x k t w v e le same rest = let z : _≡_ {A = ℕ} 0 1 = cc in absurd (omega arith)
+-- the rows from row a on were lent and came back with both start rows in front; the inner node's finish row was written behind them, as the last
+module _ (b : GreenNodeBuilder) (t part v : List ℕ) (place kind : ℕ) (m : Checkpoint) (a : ℕ) where
+  abbrev last : ℕ
+  last = b .rows + 2
 
--- all that can refuse a wrap was asked
-pub record Judged (b : GreenNodeBuilder) (t : List ℕ) (m : Checkpoint) : Type 0 where
-  pub fits : Fits b t
-  pub mark : Inside m b
-  pub inside : b .first ≤ m .children
-  pub few : b .depth + 1 < nodes
-  pub free : b .rows + 2 < length t / treeWidth
+  abbrev withWrap : GreenNodeBuilder
+  withWrap =
+      record {
+        rows = last + 1;
+        leaves = b .leaves;
+        depth = b .depth + 1;
+        children = m .children + 1;
+        first = m .children;
+        node = a;
+      }
 
--- the first opening went: the second may be asked for
-module _ {b o : GreenNodeBuilder} {t v : List ℕ} {place kind : ℕ} {m : Checkpoint} (judged : Judged b t m) (first : Opened b t place kind m o v)
-    (vt : length v ≡ length t) where
-  pub again : Within o × Inside m o × (o .rows * treeWidth + treeWidth ≤ length v) × (o .depth < nodes)
-  again = (omega arith, omega arith, omega arith, omega arith)
+  -- where the part that is lent on begins and ends
+  abbrev begin : ℕ
+  begin = a * treeWidth
 
-  -- it went too: the end of the inner node may be asked for, and is the answer
-  module _ {i : GreenNodeBuilder} {w : List ℕ} (second : Opened o v place ClauseArgument m i w) (wv : length w ≡ length v) where
-    pub closable : Fits i w × Within i
-    closable = (omega arith, omega arith)
+  abbrev end : ℕ
+  end = last * treeWidth
 
-    pub wrapped :
-        {f : code.Frame} {r : Built} {x : List ℕ}
-        → frameOf f ≡ flat.frameOf (rowsOf o [])
-        → Did (λ n. flat.finish n place ClauseArgument (frameOf f) (rowsOf i w)) w r x
-        → Did (λ n. flat.wrap n place kind (markOf m) (rowsOf b t)) t r x
-    unfolding flat.finished
-    wrapped {f} {r} {x} parent last =
-        let long : length w ≡ length t = wv ∙ vt in
-        let rows = first .rows in
-        let rows′ = second .rows in
-        let free = judged .free in
-        let outer = flat.frameOf (rowsOf o []) in
-        let is : flat.finish (length t) place ClauseArgument outer (rowsOf i w) ≡ outOf r x = rw (long, parent) at (last .is) in
-        let goes = finish-goes (length t) place (rowsOf i w) (omega arith) ClauseArgument outer in
-        let both = wrap-finish (length t) place kind (markOf m) (rowsOf b t) (judged .inside) (judged .few) (omega arith) in
-        let unmoved = second .rest ∙ drop-more (o .rows * treeWidth) (i .rows * treeWidth) v t (omega arith) (first .rest) in
-        record {
-          is = both ∙ rw (first .is, second .is) is;
-          rest = rest-of r (flat.finished place ClauseArgument outer (rowsOf i w)) (i .rows * treeWidth) t w x (sym goes ∙ is) (omega arith) unmoved
-              (last .rest);
-        }
+  abbrev starts : List (List ℕ)
+  starts = startRows place kind ClauseArgument
+
+  abbrev ended : List ℕ
+  ended = flat.withToken place (flat.finishRow ClauseArgument)
+
+  -- the rule puts the start rows in one after the other
+  one-by-one :
+      StartRow b [] m a
+      → all-in treeWidth 0 a starts (take (b .rows * treeWidth) t) ++ ended ≡ take ((last + 1) * treeWidth) v
+      → wrapEnded place kind (markOf m) (rowsOf b t) ≡ rowsOf withWrap v
+  unfolding flat.startedAt flat.startAtRow flat.finished
+  one-by-one at e =
+      let rows : b .rows + 1 + 1 + 1 ≡ last + 1 = omega arith in
+      let depth : b .depth + 1 + 1 - 1 ≡ b .depth + 1 = omega arith in
+      rw (at .is, eq-eqb (m .children) (m .children) refl, rows, depth, ← e, add-zero (a * treeWidth), add-zero ((a + 1) * treeWidth))
+
+  -- and none of its steps is refused
+  goes : Allowed b t m → flat.wrap (length t) place kind (markOf m) (rowsOf b t) ≡ went (wrapEnded place kind (markOf m) (rowsOf b t))
+  unfolding flat.startedAt
+  goes allowed =
+      let free = allowed .free in
+      let opened = wrapOpened place kind (markOf m) (rowsOf b t) in
+      let outer = flat.frameOf (flat.startedAt place kind (markOf m) (rowsOf b t)) in
+      wrap-finish (length t) place kind (markOf m) (rowsOf b t) (allowed .inside) (allowed .few) (omega arith)
+      ∙ finish-goes (length t) place opened (omega arith) ClauseArgument outer
+
+  pub encloses :
+      Allowed b t m
+      → StartRow b [] m a
+      → part ≡ inFront treeWidth starts (lent begin end t)
+      → v ≡ written treeWidth last ended (putMid begin (end - begin) t part)
+      → Did (λ n. flat.wrap n place kind (markOf m) (rowsOf b t)) t (Went withWrap) v
+  encloses allowed at e behind-it =
+      let free = allowed .free in
+      let moved = moved-down treeWidth a (b .rows) starts t part (refl, (refl, tt)) (at .high) (omega arith) e in
+      let long = moved .long in
+      let all = putMid begin (end - begin) t part in
+      let room : end + treeWidth ≤ length all = omega arith in
+      let rows = rw (← moved .is) at (one-more treeWidth last all v ended refl room behind-it) in
+      let rest = the-rest treeWidth last all v ended refl room behind-it in
+      record {
+        is = goes allowed ∙ ap went (one-by-one at rows);
+        rest = rest ∙ drop-more end ((last + 1) * treeWidth) all t (omega arith) (moved .rest);
+      }

@@ -1,12 +1,12 @@
 -- What the contracts of the builder's functions say.
-use Prim.Native.Nat.{ℕ, _+_, _*_, _≤_, _<_}
+use Prim.Native.Nat.{ℕ, _+_, _*_, _-_, _/_, _≤_, _<_}
 use mathlib.Core.Path.{_≡_}
-use mathlib.Core.List.{List, _++_}
+use mathlib.Core.List.{List, [], _∷_, _++_, flatten}
 use denote.Ref.{RefT}
 use denote.Triple.Both.{Both}
 use lib.ListN.{length, take, drop}
 use Rattle.rules.specs.Limits
-use Rattle.rules.specs.Flat.{Rows, startedAt, startAtRow}
+use Rattle.rules.specs.Flat.{Rows, withToken, startRow, startAtRow}
 use Rattle.rules.specs.Outcome.{Out}
 use Rattle.builder.specs.declared.Checkpoint.{Checkpoint}
 use Rattle.builder.specs.declared.GreenNodeBuilder.{GreenNodeBuilder}
@@ -17,6 +17,14 @@ use Rattle.builder.specs.Stands.{rowsOf, markOf, outOf}
 -- rows of so many numbers: one is written over what stands there
 abbrev pub written : (width row : ℕ) (numbers t : List ℕ) → List ℕ
 written width row numbers t = take (row * width) t ++ (numbers ++ drop (row * width + width) t)
+
+-- rows go in front of those of a part, which move down by as many; what stood in the part's last rows is gone
+abbrev pub inFront : (width : ℕ) (rows : List (List ℕ)) (part : List ℕ) → List ℕ
+inFront width rows part = flatten rows ++ take (length part - length rows * width) part
+
+-- the start rows of two nodes, the inner one's behind the outer one's
+abbrev pub startRows : (place outer inner : ℕ) → List (List ℕ)
+startRows place outer inner = withToken place (startRow outer) ∷ withToken place (startRow inner) ∷ []
 
 -- the rows lie in the buffer, and nothing is counted that is no row
 pub record Fits (b : GreenNodeBuilder) (t : List ℕ) : Type 0 where
@@ -53,20 +61,13 @@ Lent = Both (RefT (List ℕ)) (RefT (List ℕ))
 abbrev pub Goes : (rule : ℕ → Rows → Out Rows) (b : GreenNodeBuilder) (tree : Lent) (r : Built) → Type 0
 Goes rule b tree r = Did (λ n. rule n (rowsOf b (tree .entry .now))) (tree .entry .now) r (tree .exit .now)
 
--- where a start row goes for a mark, and between which rows that is
+-- where a start row goes for a mark, which is not behind the rows
 pub record StartRow (b : GreenNodeBuilder) (t : List ℕ) (m : Checkpoint) (row : ℕ) : Type 0 where
   pub is : startAtRow (markOf m) (rowsOf b t) ≡ row
-  pub low : m .children ≤ row
   pub high : row ≤ b .rows
 
--- a node was opened at a mark: the rule's rows, and what a second opening there lives on
-pub record Opened (b : GreenNodeBuilder) (t : List ℕ) (place kind : ℕ) (m : Checkpoint) (r : GreenNodeBuilder) (v : List ℕ) : Type 0 where
-  pub is : startedAt place kind (markOf m) (rowsOf b t) ≡ rowsOf r v
-  pub rest : drop (r .rows * Limits.treeWidth) v ≡ drop (r .rows * Limits.treeWidth) t
-  pub rows : r .rows ≡ b .rows + 1
-  pub leaves : r .leaves ≡ b .leaves
-  pub depth : r .depth ≡ b .depth + 1
-  pub children : r .children ≡ b .children
-  pub first : r .first ≡ m .children
-  pub low : r .first ≤ r .node
-  pub high : r .node ≤ b .rows
+-- nothing refuses a wrap: its mark lies in the open node, two nodes more may be opened, and three rows more have room
+pub record Allowed (b : GreenNodeBuilder) (t : List ℕ) (m : Checkpoint) : Type 0 where
+  pub inside : b .first ≤ m .children
+  pub few : b .depth + 1 < Limits.nodes
+  pub free : b .rows + 2 < length t / Limits.treeWidth

@@ -2,19 +2,18 @@
 // Each operation is handed the place, the first token not wholly read. A row has it as its fifth number, but that a leaf has its own token. A refused
 // operation changes nothing.
 ghost use mathlib.Core.Path.{_≡_};
-ghost use Prim.Native.Nat.{_+_, _*_, _^_, _≤_, _<_};
+ghost use Prim.Native.Nat.{_^_, _<_};
 ghost use mathlib.Core.List.{[]};
-ghost use lib.ListN.{length};
-ghost use Rattle.rules.specs.Limits.{treeWidth, nodes};
 ghost use Rattle.rules.specs.Flat as flat;
 ghost use Rattle.builder.specs.Stands.{rowsOf, markOf, frameOf};
-ghost use Rattle.builder.specs.Contract.{Fits, Within, Inside, Goes, StartRow, Opened};
+ghost use Rattle.builder.specs.Contract.{Fits, Within, Inside, Goes, StartRow, Allowed};
+ghost use Rattle.builder.specs.declared.Built.the-variants.{Went};
 
 mod dropped;
 mod rows;
 
 pub use dropped::drop_token;
-use rows::insert_start;
+use rows::insert_starts;
 use rows::put;
 use syntax::Limits;
 use syntax::Refusal;
@@ -166,21 +165,26 @@ impl GreenNodeBuilder {
         }
     }
 
-    // A node begins at an earlier mark, where nothing refuses it: the rows from there on are lent on and move down.
-    fn open_at(self, tree: &mut [u32], place: u32, kind: u32, at: Checkpoint) -> GreenNodeBuilder
-        requires { ⌜ Within self × Inside at self × (self .rows * treeWidth + treeWidth ≤ length (now tree)) × (self .depth < nodes) ⌝ }
-        ensures { λ r. ⌜ Opened self (now (tree .entry)) place kind at r (now (tree .exit)) ⌝ }
+    // A wrap that nothing refuses. The rows from its mark on are lent on and move down once, by two rows, since both nodes begin there.
+    fn enclose(self, tree: &mut [u32], place: u32, kind: u32, at: Checkpoint) -> GreenNodeBuilder
+        requires { ⌜ Within self × Inside at self × Allowed self (now tree) at ⌝ }
+        ensures { λ r. ⌜ Goes (λ n. flat.wrap n place kind (markOf at)) self tree (Went r) ⌝ }
     {
         let start = self.start_row(at);
+        let last = self.rows + 2;
         let from = start * Limits::TREE_WIDTH;
-        let to = self.rows * Limits::TREE_WIDTH + Limits::TREE_WIDTH;
-        insert_start(&mut tree[from..to], kind, place);
-        let mut next = self;
-        next.rows = self.rows + 1;
-        next.depth = self.depth + 1;
-        next.first = at.children;
-        next.node = start;
-        next
+        let to = last * Limits::TREE_WIDTH;
+        let argument = SyntaxKind::CLAUSE_ARGUMENT;
+        insert_starts(&mut tree[from..to], kind, argument, place);
+        put(tree, last, Tag::FINISH, argument, 0, 0, place);
+        GreenNodeBuilder {
+            rows: last + 1,
+            leaves: self.leaves,
+            depth: self.depth + 1,
+            children: at.children + 1,
+            first: at.children,
+            node: start,
+        }
     }
 
     // A wrap: a node begins at an earlier mark and stays open, and an argument inside it is closed around what stood there.
@@ -195,19 +199,19 @@ impl GreenNodeBuilder {
         if Limits::NODES <= self.depth {
             return Built::Refused(Refusal::TOO_MANY_OPEN, place as usize);
         }
+        let rows = self.rows;
+        let last = rows + 2;
         let room = tree.len() / Limits::TREE_WIDTH;
-        if room <= self.rows {
+        if room <= rows {
             return Built::Refused(Refusal::NO_ROOM, place as usize);
         }
         // The argument's own opening is judged by itself.
         if Limits::NODES <= self.depth + 1 {
             return Built::Refused(Refusal::TOO_MANY_OPEN, place as usize);
         }
-        if room <= self.rows + 2 {
+        if room <= last {
             return Built::Refused(Refusal::NO_ROOM, place as usize);
         }
-        let outer = self.open_at(tree, place, kind, at);
-        let inner = outer.open_at(tree, place, SyntaxKind::CLAUSE_ARGUMENT, at);
-        inner.finish_node(tree, place, SyntaxKind::CLAUSE_ARGUMENT, outer.frame())
+        Built::Went(self.enclose(tree, place, kind, at))
     }
 }

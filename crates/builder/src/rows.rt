@@ -1,11 +1,10 @@
-// Rows in a buffer of numbers: one is written, and all from one on move down to make room for another.
+// Rows in a buffer of numbers: one is written, and all from one on move down to make room for others.
 ghost use mathlib.Core.Path.{_≡_};
 ghost use Prim.Native.Nat.{_+_, _*_, _-_, _≤_};
 ghost use mathlib.Core.List.{[], _∷_, _++_};
 ghost use lib.ListN.{length, take};
 ghost use Rattle.rules.specs.Limits.{treeWidth};
-ghost use Rattle.rules.specs.Flat.{withToken, startRow};
-ghost use Rattle.builder.specs.Contract.{written};
+ghost use Rattle.builder.specs.Contract.{written, startRows, inFront};
 use syntax::Limits;
 use syntax::Tag;
 
@@ -34,11 +33,12 @@ fn shift(part: &mut [u32], by: usize)
     }
 }
 
-// A start row goes in front of the rows of a part, whose last row's place is free.
-pub fn insert_start(part: &mut [u32], kind: u32, place: u32)
-    requires { ⌜ treeWidth ≤ length (now part) ⌝ }
-    ensures { λ _. ⌜ now (part .exit) ≡ withToken place (startRow kind) ++ take (length (now (part .entry)) - treeWidth) (now (part .entry)) ⌝ }
+// The start rows of two nodes, the inner one's behind the outer one's, go in front of the rows of a part, whose last two rows' places are free.
+pub fn insert_starts(part: &mut [u32], outer: u32, inner: u32, place: u32)
+    requires { ⌜ 2 * treeWidth ≤ length (now part) ⌝ }
+    ensures { λ _. ⌜ now (part .exit) ≡ inFront treeWidth (startRows place outer inner) (now (part .entry)) ⌝ }
 {
-    shift(part, Limits::TREE_WIDTH);
-    put(part, 0, Tag::START, kind, 0, 0, place);
+    shift(part, 2 * Limits::TREE_WIDTH);
+    put(part, 0, Tag::START, outer, 0, 0, place);
+    put(part, 1, Tag::START, inner, 0, 0, place);
 }

@@ -19,7 +19,7 @@ const SIZES: &[usize] = &[1_000, 4_000, 16_000];
 /// The name of the list with a script on nearly each item.
 pub const BINDER: &str = "binder";
 
-pub const WORKLOADS: [Workload; 7] = [
+pub const WORKLOADS: [Workload; 8] = [
     Workload {
         name: BINDER,
         shapes: "",
@@ -76,6 +76,15 @@ pub const WORKLOADS: [Workload; 7] = [
         unit: || "_b".to_owned(),
         tokens: 2,
         sizes: SIZES,
+    },
+    // Each prime wraps the whole group before it.
+    Workload {
+        name: "primes",
+        shapes: "",
+        first: "",
+        unit: || format!("{{{}}}{}", "a,".repeat(1_500), "'".repeat(998)),
+        tokens: 4_000,
+        sizes: &[4_000, 8_000, 16_000],
     },
 ];
 
