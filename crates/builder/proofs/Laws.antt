@@ -20,7 +20,7 @@ use Rattle.builder.specs.Contract.{Allowed, Did, StartRow, inFront, star
 use Rattle.builder.specs.declared.Checkpoint.{Checkpoint}
 use Rattle.builder.specs.declared.GreenNodeBuilder.{GreenNodeBuilder}
 use Rattle.builder.specs.declared.Built.the-variants.{Went}
-use Rattle.builder.proofs.Numbers.{one-more, the-rest, all-in, in-front, lent, moved-down}
+use Rattle.builder.proofs.Numbers.{one-more, the-rest, Wide, all-in, in-front, lent, moved-down}
 
 -- ---- a row behind the others
 
@@ -114,6 +114,9 @@ drop-more n m x y le e =
     let up : n + (m - n) ≡ m = omega arith in
     rw (← up) (sym (drop-drop (m - n) n x) ∙ ap (λ (l : List ℕ). drop (m - n) l) e ∙ drop-drop (m - n) n y)
 
+starts-wide : (place outer inner : ℕ) → Wide treeWidth (startRows place outer inner)
+starts-wide place outer inner = (refl, (refl, tt))
+
 -- both start rows were written over what stayed where the rows moved down
 pub starts-in-front :
     (place outer inner : ℕ) (l p q v : List ℕ)
@@ -123,9 +126,9 @@ pub starts-in-front :
     → v ≡ written treeWidth 1 (flat.withToken place (flat.startRow inner)) q
     → v ≡ inFront treeWidth (startRows place outer inner) l
 starts-in-front place outer inner l p q v fit moved first second =
-    let behind = flat.withToken place (flat.startRow inner) in
-    second ∙ ap (λ (t : List ℕ). written treeWidth 1 behind t) first
-    ∙ in-front treeWidth (startRows place outer inner) l p (refl, (refl, tt)) fit moved
+    let inner-row = flat.withToken place (flat.startRow inner) in
+    second ∙ ap (λ (t : List ℕ). written treeWidth 1 inner-row t) first
+    ∙ in-front treeWidth (startRows place outer inner) l p (starts-wide place outer inner) fit moved
 
 -- the rows from row a on were lent and came back with both start rows in front; the inner node's finish row was written behind them, as the last
 module _ (b : GreenNodeBuilder) (t part v : List ℕ) (place kind : ℕ) (m : Checkpoint) (a : ℕ) where
@@ -153,13 +156,13 @@ module _ (b : GreenNodeBuilder) (t part v : List ℕ) (place kind : ℕ) (m : Ch
   abbrev starts : List (List ℕ)
   starts = startRows place kind ClauseArgument
 
-  abbrev ended : List ℕ
-  ended = flat.withToken place (flat.finishRow ClauseArgument)
+  abbrev finish-row : List ℕ
+  finish-row = flat.withToken place (flat.finishRow ClauseArgument)
 
   -- the rule puts the start rows in one after the other
   one-by-one :
       StartRow b [] m a
-      → all-in treeWidth 0 a starts (take (b .rows * treeWidth) t) ++ ended ≡ take ((last + 1) * treeWidth) v
+      → all-in treeWidth 0 a starts (take (b .rows * treeWidth) t) ++ finish-row ≡ take ((last + 1) * treeWidth) v
       → wrapEnded place kind (markOf m) (rowsOf b t) ≡ rowsOf withWrap v
   unfolding flat.startedAt flat.startAtRow flat.finished
   one-by-one at e =
@@ -181,16 +184,16 @@ module _ (b : GreenNodeBuilder) (t part v : List ℕ) (place kind : ℕ) (m : Ch
       Allowed b t m
       → StartRow b [] m a
       → part ≡ inFront treeWidth starts (lent begin end t)
-      → v ≡ written treeWidth last ended (putMid begin (end - begin) t part)
+      → v ≡ written treeWidth last finish-row (putMid begin (end - begin) t part)
       → Did (λ n. flat.wrap n place kind (markOf m) (rowsOf b t)) t (Went withWrap) v
-  encloses allowed at e behind-it =
+  encloses allowed at e finish-written =
       let free = allowed .free in
-      let moved = moved-down treeWidth a (b .rows) starts t part (refl, (refl, tt)) (at .high) (omega arith) e in
+      let moved = moved-down treeWidth a (b .rows) starts t part (starts-wide place kind ClauseArgument) (at .high) (omega arith) e in
       let long = moved .long in
       let all = putMid begin (end - begin) t part in
       let room : end + treeWidth ≤ length all = omega arith in
-      let rows = rw (← moved .is) at (one-more treeWidth last all v ended refl room behind-it) in
-      let rest = the-rest treeWidth last all v ended refl room behind-it in
+      let rows = rw (← moved .is) at (one-more treeWidth last all v finish-row refl room finish-written) in
+      let rest = the-rest treeWidth last all v finish-row refl room finish-written in
       record {
         is = goes allowed ∙ ap went (one-by-one at rows);
         rest = rest ∙ drop-more end ((last + 1) * treeWidth) all t (omega arith) (moved .rest);

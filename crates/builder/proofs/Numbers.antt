@@ -1,6 +1,6 @@
 -- Laws on rows in a list of numbers, over the width of a row: a row is written; rows move down by some, and as many are written in front of them.
--- A row that goes in over what stands there, whether it is written over another or put in between, is one law; several, one behind the other, are an
--- induction on it. Assumes nothing.
+-- A row that is written over another and one that is put in between are one definition with its laws; several, one behind the other, are an
+-- induction on these. Assumes nothing.
 use mathlib.Core.Path.{_≡_, refl, sym, ap, ap₂, _∙_}
 use mathlib.Core.List.{List, [], _∷_, _++_, append-assoc, append-nil, flatten}
 use Prim.Native.Nat.{ℕ, suc, _+_, _*_, _-_, _≤_, _<_}
@@ -14,7 +14,7 @@ use Rattle.builder.specs.Contract.{written, inFront}
 
 -- ---- a row is written
 
-pub next-row : (w r : ℕ) → (r + 1) * w ≡ r * w + w
+next-row : (w r : ℕ) → (r + 1) * w ≡ r * w + w
 next-row w r = rw (add-one r) (suc-mul r w)
 
 pub two-on : (i : ℕ) → i + 2 ≡ suc (suc i)
@@ -31,7 +31,7 @@ pub stored : (row t : List ℕ) (i : ℕ) → i + length row ≤ length t → se
 stored row t i fit = sets-eq row t i fit ∙ append-assoc (take i t) row (drop (i + length row) t)
 
 -- a row goes in behind the first r rows of t, over so many numbers: over none it is put in between, over a row's it is written over one
-abbrev pub gone-in : (w over r : ℕ) (row t : List ℕ) → List ℕ
+abbrev gone-in : (w over r : ℕ) (row t : List ℕ) → List ℕ
 gone-in w over r row t = take (r * w) t ++ (row ++ drop (r * w + over) t)
 
 module _ (w over r : ℕ) (t v row : List ℕ) (wide : length row ≡ w) (fit : r * w ≤ length t) (e : v ≡ gone-in w over r row t) where
@@ -95,16 +95,16 @@ at-once w over r [] t wide fit = rw (zero-mul over, add-zero (r * w)) (sym (take
 at-once w over r (row ∷ rows) t wide fit =
     let v = gone-in w over r row t in
     let later = length rows * over in
-    let behind = drop (r * w + length (row ∷ rows) * over) t in
+    let after = drop (r * w + length (row ∷ rows) * over) t in
     let front : take ((r + 1) * w) v ≡ take (r * w) t ++ row = sym (up-to-it w over r t v row (wide .0) fit refl) in
     let far : r * w + over + later ≡ r * w + length (row ∷ rows) * over = rw (suc-mul (length rows) over) (omega arith) in
-    let back : drop ((r + 1) * w + later) v ≡ behind =
+    let back : drop ((r + 1) * w + later) v ≡ after =
     sym (drop-drop later ((r + 1) * w) v) ∙ ap (λ (l : List ℕ). drop later l) (behind-it w over r t v row (wide .0) fit refl)
     ∙ drop-drop later (r * w + over) t ∙ ap (λ (n : ℕ). drop n t) far in
     at-once w over (r + 1) rows v (wide .1) (long-enough w over r t v row (wide .0) fit refl)
     ∙ ap₂ (λ (x y : List ℕ). x ++ (flatten rows ++ y)) front back
-    ∙ append-assoc (take (r * w) t) row (flatten rows ++ behind)
-    ∙ ap (λ (x : List ℕ). take (r * w) t ++ x) (sym (append-assoc row (flatten rows) behind))
+    ∙ append-assoc (take (r * w) t) row (flatten rows ++ after)
+    ∙ ap (λ (x : List ℕ). take (r * w) t ++ x) (sym (append-assoc row (flatten rows) after))
 
 -- ---- all but the last `by` numbers move down by so many, from the end on
 
@@ -154,7 +154,7 @@ shift-all l p by i hi lo e =
 
 -- ---- rows move down, and as many are written in front of them
 
--- those that stay where all others have moved are written over
+-- the first numbers, which stayed where all others moved down, are written over
 pub in-front :
     (w : ℕ) (rows : List (List ℕ)) (l p : List ℕ)
     → Wide w rows
@@ -168,7 +168,7 @@ in-front w rows l p wide le moved =
     let all : all-in w w 0 rows p ≡ flatten rows ++ drop by p = rw (none, zero-add by) at (at-once w w 0 rows p wide (omega arith)) in
     all ∙ rw moved (ap (λ (x : List ℕ). flatten rows ++ x) (drop-at (take by l) (take (length l - by) l) by stay))
 
--- ---- the part from x on was lent, with places for k numbers more behind the first y: it comes back with others in front, and as long
+-- ---- the part from x to z was lent, the numbers up to y and k places behind them: it comes back with k others in front, and as long
 
 -- the part as it was lent
 abbrev pub lent : (x z : ℕ) (t : List ℕ) → List ℕ
@@ -196,11 +196,11 @@ module _ (x y k z : ℕ) (t part front : List ℕ) (low : x ≤ y) (end : z ≡ 
 
   inserted : take x (take y t) ++ (front ++ drop x (take y t)) ≡ take z (putMid x (z - x) t part)
   inserted =
-      let behind-it = drop (z - x) (drop x t) in
+      let after = drop (z - x) (drop x t) in
       let before : length (take x t) ≡ x = length-take-le x t (omega arith) in
       let both : length (take x t ++ part) ≡ z = length-append (take x t) part ∙ (let p = part-long in omega arith) in
       rw (take-take x y t low, ← part-is)
-      (sym (rw (← append-assoc (take x t) part behind-it) (take-at (take x t ++ part) behind-it z both)))
+      (sym (rw (← append-assoc (take x t) part after) (take-at (take x t ++ part) after z both)))
 
   behind : drop z (putMid x (z - x) t part) ≡ drop z t
   behind = drop-put x z t part (omega arith) fit part-long

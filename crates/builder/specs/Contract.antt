@@ -61,7 +61,7 @@ Lent = Both (RefT (List ℕ)) (RefT (List ℕ))
 abbrev pub Goes : (rule : ℕ → Rows → Out Rows) (b : GreenNodeBuilder) (tree : Lent) (r : Built) → Type 0
 Goes rule b tree r = Did (λ n. rule n (rowsOf b (tree .entry .now))) (tree .entry .now) r (tree .exit .now)
 
--- where a start row goes for a mark, which is not behind the rows
+-- where a start row goes for a mark; that row is not behind the rows
 pub record StartRow (b : GreenNodeBuilder) (t : List ℕ) (m : Checkpoint) (row : ℕ) : Type 0 where
   pub is : startAtRow (markOf m) (rowsOf b t) ≡ row
   pub high : row ≤ b .rows

@@ -1,9 +1,9 @@
 //! Times the port, the Rust's parser and a Vec of rows on the same tokens.
 //!
 //! `bench` prints a table with nanoseconds a token and then the ratios: of each workload
-//! the worst over its sizes, and of the binder port/vec at 10,000 tokens. `bench repeat
-//! RIVAL WORKLOAD TOKENS TIMES` runs one rival alone, for a profile. `bench stack` prints how
-//! much stack the port needs.
+//! the worst over its sizes, and port/vec of those that move rows, each at one size. `bench
+//! repeat RIVAL WORKLOAD TOKENS TIMES` runs one rival alone, for a profile. `bench stack`
+//! prints how much stack the port needs.
 
 use std::process::ExitCode;
 use std::time::Duration;
@@ -38,8 +38,9 @@ fn stack() -> ExitCode {
     ExitCode::SUCCESS
 }
 
-/// The size at which the binder is held against the Vec.
-const BINDER_TOKENS: usize = 10_000;
+/// The workloads that move rows, with the size at which each is held against the Vec. The
+/// binder's ratio is the output's last line, which other pages name.
+const TO_VEC: [(&str, usize); 3] = [("primes", 16_000), ("chain", 16_000), (BINDER, 10_000)];
 
 fn all(span: Duration) -> ExitCode {
     println!(
@@ -62,10 +63,13 @@ fn all(span: Duration) -> ExitCode {
         let worst = worst(measured, Measured::port_to_mitex);
         println!("ratio {} port/mitex {worst:.2}", workload.name);
     }
-    let (_, binder) = &measured[0];
-    let at = WORKLOADS[0].sizes.iter().position(|&s| s == BINDER_TOKENS);
-    let binder = binder[at.expect("the binder's size")];
-    println!("ratio {BINDER} port/vec {:.2}", binder.port_to_vec());
+    for (name, size) in TO_VEC {
+        let of_name = measured.iter().find(|(workload, _)| workload.name == name);
+        let (workload, measured) = of_name.expect("a workload of that name");
+        let at = workload.sizes.iter().position(|&s| s == size);
+        let ratio = measured[at.expect("a size of the workload")].port_to_vec();
+        println!("ratio {name} port/vec {ratio:.2}");
+    }
     ExitCode::SUCCESS
 }
 

@@ -77,7 +77,7 @@ pub const WORKLOADS: [Workload; 8] = [
         tokens: 2,
         sizes: SIZES,
     },
-    // Each prime wraps the whole group before it.
+    // Each prime wraps the whole group before it, with the primes in between.
     Workload {
         name: "primes",
         shapes: "",
@@ -95,10 +95,5 @@ impl Workload {
 
     pub fn spec(&self) -> Spec {
         self.shapes.parse().expect("shapes of a workload")
-    }
-
-    /// Whether rows are moved again and again, so that time per token must grow.
-    pub fn moves_all(&self) -> bool {
-        self.name == "chain"
     }
 }

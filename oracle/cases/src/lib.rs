@@ -19,7 +19,7 @@ pub use case::{read_list, write_list, Case};
 pub use count::Counts;
 pub use limits::all as around_limits;
 pub use list::{recorded_list, MOST_BYTES, SEED};
-pub use named::{comment_formulas, paper_formulas, Formula, FULL_ROOM};
+pub use named::{comment_formulas, inside_a_wrap, paper_formulas, Formula, FULL_ROOM};
 pub use notation::notation;
 pub use parts::used_shapes;
 pub use sequences::all as all_sequences;

@@ -2,6 +2,7 @@
 //! how it and document 02 are read, and those that the comments of the Rust quote.
 
 use answers::{Fault, Run, Spec};
+use sheet::Row;
 
 use crate::Case;
 
@@ -31,6 +32,10 @@ impl Formula {
         Self { room, ..self }
     }
 
+    fn with_rows(self, rows: usize) -> Self {
+        self.with_room((Row::WIDTH * rows) as u32)
+    }
+
     pub fn spec(&self) -> Spec {
         self.shapes.parse().expect("shapes of a named formula")
     }
@@ -44,9 +49,11 @@ impl Formula {
     }
 }
 
-/// The formulas of document 01 in its order, then those of the readings.
+/// The formulas of document 01 in its order, then those of the readings, those with a refusal
+/// inside a wrap last.
 pub fn paper_formulas() -> Vec<Formula> {
-    [to_check(), by_reading()].into_iter().flatten().collect()
+    let formulas = [to_check(), by_reading(), inside_a_wrap()];
+    formulas.into_iter().flatten().collect()
 }
 
 #[rustfmt::skip]
@@ -97,6 +104,21 @@ fn by_reading() -> Vec<Formula> {
         formula("$", "", "a lone `$`"),
         formula("x\\o y", "o=infix", "fifth numbers 0 1 1 0 0 1 1 1 2 2 3 3 4 4 4 4"),
         formula("\\f x &", "f=fixed2", "fifth numbers 0 0 0 2 2 3 4 3 4 5"),
+    ]
+}
+
+/// Refusals before, between and behind the two openings of a wrap, which are judged one by
+/// one.
+#[rustfmt::skip]
+pub fn inside_a_wrap() -> Vec<Formula> {
+    let deep = "{".repeat(126) + "a_";
+    vec![
+        formula("a_b", "", "room for 4 rows, none for the wrap: refused 8 at 1").with_rows(4),
+        formula("a_b", "", "room for 5 rows, one for the wrap's first opening: refused 8 at 1").with_rows(5),
+        formula("a_b", "", "room for 6 rows, for both openings of the wrap: refused 8 at 1").with_rows(6),
+        formula("a_b", "", "room for 7 rows, for the wrap and no leaf behind it: refused 8 at 1").with_rows(7),
+        formula(deep.as_str(), "", "room for 256 rows, none for the wrap: refused 8 at 127").with_rows(256),
+        formula(deep.as_str(), "", "room for 257 rows, one for the wrap's first opening: refused 7 at 127").with_rows(257),
     ]
 }
 

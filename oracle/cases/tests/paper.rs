@@ -1,6 +1,6 @@
 //! The formulas of document 01 come out as it says, with the fifth number of document 02.
 
-use cases::{notation, paper_formulas, Case, Formula};
+use cases::{inside_a_wrap, notation, paper_formulas, Case, Formula};
 use sheet::{listing, Answer};
 
 /// An answer in one line: rows and tree and what was dropped, or the refusal.
@@ -124,6 +124,18 @@ fn nesting() {
     assert_eq!(told(&deep(128)), "refused 7 at 127");
     let inner = find(&("{".repeat(126) + "a_"), "");
     assert_eq!(told(&inner), "refused 7 at 127");
+}
+
+#[test]
+fn refusals_inside_a_wrap() {
+    for formula in inside_a_wrap() {
+        let answer = told(&formula);
+        assert!(
+            formula.said.ends_with(&answer),
+            "{}: {answer}",
+            formula.said
+        );
+    }
 }
 
 #[test]

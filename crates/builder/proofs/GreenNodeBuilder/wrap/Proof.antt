@@ -1,5 +1,5 @@
--- `GreenNodeBuilder::wrap` meets its contract: all that can refuse it is asked before a row moves, in the rule's order; then both nodes begin at the
--- mark and the inner one ends, which is the answer. Assumes nothing.
+-- `GreenNodeBuilder::wrap` meets its contract: all that can refuse it is asked before a row moves, in the rule's order; then nothing refuses it, and
+-- what `enclose` promises is the answer. Assumes nothing.
 use mathlib.Core.Path.{refl}
 use native.Mathlib.Omega.{arith}
 use borrow.Author.Needs.{needs}
@@ -31,8 +31,9 @@ returns-4 c =
 returns-5 : tie.Need-returns-5
 returns-5 c =
     let free = returns-5→else3 c .if3 .left in
+    let full = c .if5 .taken in
     record {
-      is = wrap-fuller _ _ _ _ _ (returns-5→else1 c .if1 .left) (returns-5→else4 c .if4 .left) free (c .if5 .taken);
+      is = wrap-fuller _ _ _ _ _ (returns-5→else1 c .if1 .left) (returns-5→else4 c .if4 .left) free (omega arith);
       rest = refl;
     }
 
