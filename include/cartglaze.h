@@ -12,8 +12,8 @@
  * this.
  *
  * Stack: a run takes more the more nodes are open, and no more than 128 ever are. Formulas with so many were read on a thread with a stack of
- * 308 KiB, and not on one with 4 KiB less; the thread's own start takes a part of it. That is measured, on aarch64, and not proved; on x86-64
- * it took 372 in an emulator. `make bench` measures it again. Nothing is taken from the heap.
+ * 304 KiB, and not on one with 4 KiB less; the thread's own start takes a part of it. That is measured, on x86-64, and not proved; `make bench`
+ * measures it again. Nothing is taken from the heap.
  *
  * Tables, all of whole rows:
  *   tokens  kind, start, length, shape (0 none, k the k-th)    at most 16,384 rows, text at most 65,535 bytes
