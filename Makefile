@@ -1,5 +1,5 @@
 # The README's two commands, and the Rust beside the port.
-.PHONY: test run treelist examples ffi library ffi-test oracle record oracle-test differ hostile bench
+.PHONY: test run treelist examples ffi library ffi-test oracle record oracle-test differ hostile bench pair
 
 # The gate: layout, proofs, must-fail edits, programs.
 test:
@@ -75,3 +75,10 @@ bench:
 	nm -u $(LIBRARY)/libffi.a
 	target/oracle/release/bench stack
 	target/oracle/release/bench
+
+# Another build of the library, the archive that BEFORE names, and this one in one process, called in turns.
+WORKLOAD = binder
+TOKENS = 1000 4000 10000 16000
+pair:
+	./oracle/beside
+	oracle/pair/run $(BEFORE) $(LIBRARY)/libffi.a $(WORKLOAD) $(TOKENS)

@@ -3,12 +3,14 @@
 //! `bench` prints a table with nanoseconds a token and then the ratios: of each workload
 //! the worst over its sizes, and port/vec of those that move rows, each at one size. `bench
 //! repeat RIVAL WORKLOAD TOKENS TIMES` runs one rival alone, for a profile. `bench stack`
-//! prints how much stack the port needs.
+//! prints how much stack the port needs. `bench tables WORKLOAD TOKENS` writes a workload's
+//! tables, as a sheet has them and of any length.
 
+use std::io::Write;
 use std::process::ExitCode;
 use std::time::Duration;
 
-use answers::with_deep_stack;
+use answers::{with_deep_stack, Run};
 use bench::{least_stack, read_on, Measured, Prepared, Rival, Workload, BINDER, WORKLOADS};
 
 fn main() -> ExitCode {
@@ -24,8 +26,10 @@ fn main() -> ExitCode {
                 ExitCode::SUCCESS
             }),
             ["repeat", rival, name, tokens, times] => repeat(rival, name, tokens, times),
+            ["tables", name, tokens] => tables(name, tokens),
             _ => {
-                eprintln!("usage: bench [quick | stack | repeat RIVAL WORKLOAD TOKENS TIMES]");
+                eprintln!("usage: bench [quick | stack | repeat RIVAL WORKLOAD TOKENS TIMES");
+                eprintln!("              | tables WORKLOAD TOKENS]");
                 ExitCode::FAILURE
             }
         }
@@ -99,5 +103,17 @@ fn repeat(rival: &str, name: &str, tokens: &str, times: &str) -> ExitCode {
             ExitCode::SUCCESS
         }
         _ => ExitCode::FAILURE,
+    }
+}
+
+fn tables(name: &str, tokens: &str) -> ExitCode {
+    let workload = WORKLOADS.iter().find(|workload| workload.name == name);
+    let (Some(workload), Ok(tokens)) = (workload, tokens.parse()) else {
+        return ExitCode::FAILURE;
+    };
+    let run = Run::of(&workload.text(tokens), &workload.spec()).expect("a run");
+    match std::io::stdout().write_all(&run.tables.sheet()) {
+        Ok(()) => ExitCode::SUCCESS,
+        Err(_) => ExitCode::FAILURE,
     }
 }
