@@ -1,23 +1,15 @@
--- The contracts fix what they speak of: two results that meet one are equal. A contract that equates the result with a rule's leaves one value; where
--- the result stands for the rule's, no two stand for the same. Assumes nothing.
+-- The run's contract fixes what it speaks of: two results that meet it are equal, for no two answers stand for the same. The questions' are fixed in
+-- crates/questions/proofs/Only.antt. Assumes nothing.
 use mathlib.Core.Path.{_≡_, sym, ap, _∙_}
-use mathlib.Core.Bool.{Bool}
 use mathlib.Core.List.{List}
 use Prim.Native.Nat.{ℕ}
 use native.Mathlib.Omega.{arith}
-use denote.Ref.{RefT, now}
 use Rattle.rules.specs.Checks.{Tables}
-use Rattle.rules.specs.Questions.{leafRange, isDisplay, isInline, isValid, isLeaf}
 use Rattle.rules.specs.Run as rules
 use Rattle.rules.specs.Run.{run}
-use Rattle.questions.specs.Contract.{LeafText}
-use Rattle.questions.specs.Stands.{rangeOf}
-use Rattle.questions.specs.declared.leaf.LeafRange.{LeafRange}
 use Rattle.listings.specs.Stands.{answerOf, ranOf}
 use Rattle.listings.specs.declared.answer.Answer.{Answer}
 use Rattle.listings.specs.declared.answer.Answer.the-variants.{Accepted, Refused}
-
--- ---- the run
 
 -- the two numbers of an answer
 abbrev first : rules.Answer → ℕ
@@ -48,25 +40,3 @@ pub only-run : (t : Tables) (tree dropped : List ℕ) (r s : Answer) (v v′ w w
 only-run t tree dropped r s v v′ w w′ e f =
     let same = sym e ∙ f in
     (same-answer r s (ap (λ x. x .answer) same), (ap (λ x. x .tree) same, ap (λ x. x .dropped) same))
-
--- ---- the questions
-module _ (text tree : List ℕ) (row : ℕ) where
-  pub only-display : (r s : Bool) → r ≡ isDisplay text tree row → s ≡ isDisplay text tree row → r ≡ s
-  only-display r s e f = e ∙ sym f
-
-  pub only-inline : (r s : Bool) → r ≡ isInline text tree row → s ≡ isInline text tree row → r ≡ s
-  only-inline r s e f = e ∙ sym f
-
-  pub only-valid : (r s : Bool) → r ≡ isValid text tree row → s ≡ isValid text tree row → r ≡ s
-  only-valid r s e f = e ∙ sym f
-
-  pub only-leaf : (r s : Bool) → r ≡ isLeaf text tree row → s ≡ isLeaf text tree row → r ≡ s
-  only-leaf r s e f = e ∙ sym f
-
-  pub only-range : (r s : LeafRange) → rangeOf r ≡ leafRange text tree row → rangeOf s ≡ leafRange text tree row → r ≡ s
-  only-range r s e f = let same = e ∙ sym f in rw (ap (λ x. x .start) same, ap (λ x. x .size) same)
-
--- the bytes that come back and where they lie; the name under which the prover tracks them is no part of a program
-pub only-text : (text : RefT (List ℕ)) (tree : List ℕ) (row : ℕ) (r s : RefT (List ℕ)) → LeafText text tree row r → LeafText text tree row s
-    → (now r ≡ now s) × (r .ptr ≡ s .ptr)
-only-text text tree row r s e f = (e .is ∙ sym (f .is), e .place ∙ sym (f .place))

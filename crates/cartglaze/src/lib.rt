@@ -10,6 +10,7 @@ pub use questions::is_display;
 pub use questions::is_inline;
 pub use questions::is_leaf;
 pub use questions::is_valid;
+pub use questions::is_whole;
 pub use questions::leaf_range;
 pub use questions::leaf_text;
 pub use sheets::Sections;

@@ -1,6 +1,5 @@
--- Two results of an exported function that meet its contract are equal: answers that a Bool and numbers stand for differ where these do. The
--- contracts of the questions equate the result with the rule's, as those of the functions that they hand on (crates/cartglaze/proofs/Only.antt).
--- Assumes nothing.
+-- Two results of an exported function that meet its contract are equal: answers that a Bool and numbers stand for differ where these do, and the
+-- contracts of the questions equate the result with the rule's (crates/syntax/proofs/Only.antt). Assumes nothing.
 use mathlib.Core.Path.{_≡_, refl, sym, ap, _∙_}
 use mathlib.Core.Bool.{Bool, true, false}
 use mathlib.Core.List.{List}
@@ -11,15 +10,22 @@ use borrow.Author.Tests.{leb-false}
 use lib.Dec.{leb}
 use lib.ListN.{length}
 use Rattle.rules.specs.Checks.{Tables}
-use Rattle.rules.specs.Questions.{leafRange}
 use Rattle.rules.specs.Run.{Answer, accepted, refusedAt, run}
 use Rattle.rules.proofs.Characters.{either}
+use Rattle.syntax.proofs.Only.{Only, equal}
 use Rattle.listings.specs.Contract.{Lists}
 use Rattle.sheets.specs.Contract.{numbersOf}
 use Rattle.listings.specs.declared.listing.Listed.{Listed}
 use Rattle.listings.specs.declared.listing.Listed.the-variants.{Bytes, NoRoom}
 use Rattle.ffi.specs.Exported.{answerFrom, ranFrom, Hands, listedFrom, notRead}
 use Rattle.ffi.specs.declared.sheet.Counts.{Counts}
+use Rattle.ffi.proofs.cartglaze_is_display.Reads as is-display
+use Rattle.ffi.proofs.cartglaze_is_inline.Reads as is-inline
+use Rattle.ffi.proofs.cartglaze_is_leaf.Reads as is-leaf
+use Rattle.ffi.proofs.cartglaze_is_valid.Reads as is-valid
+use Rattle.ffi.proofs.cartglaze_is_whole.Reads as is-whole
+use Rattle.ffi.proofs.cartglaze_leaf_length.Reads as leaf-length
+use Rattle.ffi.proofs.cartglaze_leaf_start.Reads as leaf-start
 
 -- ---- the run
 
@@ -45,12 +51,16 @@ only-run t tree dropped r s a b c d v w x y e f =
     let same = sym e ∙ f in
     (same-answer r s a b c d (ap (λ z. z .answer) same), (ap (λ z. z .tree) same, ap (λ z. z .dropped) same))
 
--- ---- the leaf's range
-pub only-start : (text tree : List ℕ) (row r s : ℕ) → r ≡ leafRange text tree row .start → s ≡ leafRange text tree row .start → r ≡ s
-only-start text tree row r s e f = e ∙ sym f
-
-pub only-length : (text tree : List ℕ) (row r s : ℕ) → r ≡ leafRange text tree row .size → s ≡ leafRange text tree row .size → r ≡ s
-only-length text tree row r s e f = e ∙ sym f
+-- ---- the questions
+pub questions :
+    Only is-display.Post
+    × Only is-inline.Post
+    × Only is-valid.Post
+    × Only is-whole.Post
+    × Only is-leaf.Post
+    × Only leaf-start.Post
+    × Only leaf-length.Post
+questions = (equal, equal, equal, equal, equal, equal, equal)
 
 -- ---- a sheet
 

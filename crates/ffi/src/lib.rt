@@ -3,7 +3,7 @@ mod listing;
 mod sheet;
 
 ghost use mathlib.Core.Path.{_≡_};
-ghost use Rattle.rules.specs.Questions.{isDisplay, isInline, isValid, isLeaf, leafRange};
+ghost use Rattle.rules.specs.Questions.{isDisplay, isInline, isValid, isWhole, isLeaf, leafRange};
 ghost use Rattle.rules.specs.Run.{run as runOf};
 ghost use Rattle.parser.specs.Member.{tables};
 ghost use Rattle.ffi.specs.Exported.{ranFrom};
@@ -12,6 +12,7 @@ use cartglaze::is_display;
 use cartglaze::is_inline;
 use cartglaze::is_leaf;
 use cartglaze::is_valid;
+use cartglaze::is_whole;
 use cartglaze::leaf_range;
 use cartglaze::run;
 pub use listing::cartglaze_list;
@@ -77,6 +78,14 @@ pub extern "C" fn cartglaze_is_valid(text: &[u8], tree: &[u32], row: usize) -> b
     ensures { λ r. ⌜ r ≡ isValid (now (text .entry)) (now (tree .entry)) row ⌝ }
 {
     is_valid(text, tree, row)
+}
+
+// Whether the row is a formula whose first and last child are different leaves that match.
+#[no_mangle]
+pub extern "C" fn cartglaze_is_whole(text: &[u8], tree: &[u32], row: usize) -> bool
+    ensures { λ r. ⌜ r ≡ isWhole (now (text .entry)) (now (tree .entry)) row ⌝ }
+{
+    is_whole(text, tree, row)
 }
 
 // Whether the row is a leaf inside the text.

@@ -2,19 +2,21 @@
 -- the walk to the finish passes each child's rows as one; the first and the last row that it does not pass are the leaves that rowan descends to.
 -- Assumes nothing.
 use Prim.Native.Nat.{ℕ, _+_, _*_, _-_, _≤_, _<_}
+use mathlib.Core.Bool.{and-false}
 use mathlib.Core.List.{List, [], _∷_, _++_, append-assoc}
 use mathlib.Core.Option.{Option, none, some}
 use mathlib.Core.Path.{_≡_, refl, sym, ap, ap₂, _∙_}
-use borrow.Author.Tests.{lt-ltb}
+use borrow.Author.Tests.{lt-ltb, le-ltb, ne-eqb}
 use native.Mathlib.Nat.{add-zero, add-assoc}
 use native.Mathlib.Omega.{arith}
 use lib.ListN.{length, getD, drop, length-append, length-drop}
 use lib.Seq.{drop-drop, drop-append-seam, getD-drop}
-use Rattle.rules.specs.Flat.{tagFinish, startRow, finishRow, withToken, rowOf}
-use Rattle.rules.specs.Builder.{Leaf}
+use Rattle.rules.specs.Flat.{tagLeaf, tagFinish, startRow, finishRow, withToken, rowOf}
+use Rattle.rules.specs.Builder as builder
 use Rattle.rules.specs.Limits
-use Rattle.rules.specs.Questions.{rowCount, tagAt, tagged, rangeAt, openAfter, balance, formula, firstToken, lastToken, firstFrom, lastBefore, firstLeaf, firstOf, lastLeaf, lastOf, ofLeaf, leafAt, display, inline, matched, isDisplay, isInline, isValid}
+use Rattle.rules.specs.Questions.{rowCount, tagAt, tagged, rangeAt, openAfter, balance, formula, firstToken, lastToken, firstFrom, lastBefore, firstLeaf, firstOf, lastLeaf, lastOf, ofLeaf, Leaf, leafAt, display, inline, matched, isDisplay, isInline, isValid, isWhole, wholeUpTo, childLeaf, lastChild, whole}
 use Rattle.rules.proofs.Questions.{balance-on, balance-here, first-next, first-end, last-step}
+use Rattle.rules.proofs.Whole.{no-first, no-last}
 use Rattle.rules.specs.SyntaxKind.{ItemFormula}
 use Rattle.rules.specs.Tables.{cell}
 use Rattle.rules.specs.Tree.{Tree, Forest, leaf, node, more, layout, layouts}
@@ -58,6 +60,12 @@ unfoldable mutual
   pub sizes : Forest → ℕ
   sizes Forest.none = 0
   sizes (more child rest) = size child + sizes rest
+
+-- a tree takes one at least
+some-rows : (t : Tree) → 0 < size t
+unfolding size
+some-rows (leaf l) = omega arith
+some-rows (node kind from to children) = omega arith
 
 mutual
   unfolding layout layouts size sizes
@@ -140,7 +148,7 @@ module _ (tree : List ℕ) where
         pass-tree child at deep (parts .first) deeper ∙ pass-forest rest (at + size child) deep (parts .others) deeper ∙ rw add-assoc
 
   -- what a leaf's row says
-  leaf-found : {at : ℕ} (l : Leaf) → Stands tree at (rowOf l) → leafAt tree (some at) ≡ ofLeaf l
+  leaf-found : {at : ℕ} (l : builder.Leaf) → Stands tree at (rowOf l) → leafAt tree (some at) ≡ ofLeaf l
   unfolding tagged rangeAt
   leaf-found {at} l s = rw (lt-ltb at (rowCount tree) (there s), number s 0, number s 1, number s 2, number s 3)
 
@@ -189,6 +197,55 @@ module _ (tree : List ℕ) where
         ∙ last-forest rest (at + size child) (parts .others)
         ∙ ap (lastOf rest) (last-tree child at (parts .first))
 
+  -- ---- a child's own leaf: its first row and its last are the leaf where it is one, and where it is a node they are none
+  no-leaf : {at tag kind from long token : ℕ}
+      → Stands tree at (tag ∷ kind ∷ from ∷ long ∷ token ∷ [])
+      → (tag ≡ tagLeaf → ⊥)
+      → leafAt tree (some at) ≡ none
+  unfolding tagged
+  no-leaf {at} {tag} s other = rw (number s 0, ne-eqb tag tagLeaf other, and-false)
+
+  child-first : (t : Tree) (at : ℕ) → Stands tree at (layout t) → leafAt tree (some at) ≡ childLeaf t
+  unfolding layout
+  child-first (leaf l) at s = leaf-found l s
+  child-first (node kind from to children) at s = no-leaf (node-rows kind from to children s .start) (omega arith)
+
+  child-last : (t : Tree) (at : ℕ) → Stands tree at (layout t) → leafAt tree (some (at + size t - 1)) ≡ childLeaf t
+  unfolding layout size
+  child-last (leaf l) at s =
+      let here : at + 1 - 1 ≡ at = omega arith in
+      rw here (leaf-found l s)
+  child-last (node kind from to children) at s =
+      let here : at + (1 + sizes children + 1) - 1 ≡ at + 1 + sizes children = omega arith in
+      rw here (no-leaf (node-rows kind from to children s .finish) (omega arith))
+
+  -- the last row of children is the last child's
+  children-last : (child : Tree) (rest : Forest) (at : ℕ) (before : Option Leaf) → Stands tree at (layouts (more child rest))
+      → leafAt tree (some (at + sizes (more child rest) - 1)) ≡ lastChild (more child rest) before
+  unfolding sizes lastChild
+  children-last child Forest.none at before s = rw add-zero (child-last child at (split child Forest.none s .first))
+  children-last child (more next rest) at before s =
+      let others = split child (more next rest) s .others in
+      let here : at + (size child + sizes (more next rest)) ≡ at + size child + sizes (more next rest) = omega arith in
+      rw here (children-last next rest (at + size child) (childLeaf child) others)
+
+  -- the first row inside is the first child's, and the last row the last's. Two children have two rows at least; a child alone has one row, or it is a
+  -- node, whose first row is no leaf
+  whole-inside : (text : List ℕ) (row from to : ℕ) (f : Forest)
+      → Stands tree (row + 1) (layouts f)
+      → wholeUpTo text tree row (some (row + 1 + sizes f)) ≡ whole text (node ItemFormula from to f)
+  unfolding wholeUpTo size sizes lastChild
+  whole-inside text row from to Forest.none s = rw (le-ltb (row + 1) (row + 1 + 0 - 1) (omega arith))
+  whole-inside text row from to (more (leaf l) Forest.none) s =
+      rw (le-ltb (row + 1) (row + 1 + (1 + 0) - 1) (omega arith), no-last text (ofLeaf l))
+  whole-inside text row from to (more (node kind begun ended children) Forest.none) s =
+      let child = node kind begun ended children in
+      rw (child-first child (row + 1) (split child Forest.none s .first), no-first text, and-false) (sym (no-first text none))
+  whole-inside text row from to (more child (more next rest)) s =
+      let two : row + 1 < row + 1 + sizes (more child (more next rest)) - 1 = omega (arith, some-rows child, some-rows next) in
+      rw (lt-ltb (row + 1) (row + 1 + sizes (more child (more next rest)) - 1) two)
+      (ap₂ (matched text) (child-first child (row + 1) (split child (more next rest) s .first)) (children-last child (more next rest) (row + 1) none s))
+
 -- ---- a formula's tokens, by the rows, are those that rowan has of its node
 pub record Tokens (tree : List ℕ) (row : ℕ) (t : Tree) : Type 0 where
   pub first : leafAt tree (firstToken tree row) ≡ firstLeaf t
@@ -221,11 +278,15 @@ module _ (tree : List ℕ) (row from to : ℕ) (children : Forest) (s : Stands t
             ∙ ap (λ (o : Option ℕ). lastOf children (leafAt tree o)) (last-step tree row (tag-there (rows .start))));
       }
 
--- the three answers, by the row, are those that the source has of the node
+  whole-is : (text : List ℕ) → isWhole text tree row ≡ whole text (node ItemFormula from to children)
+  whole-is text = ap (wholeUpTo text tree row) formula-is ∙ whole-inside tree text row from to children (rows .inside)
+
+-- the answers, by the row, are those that the source and 02 have of the node
 pub record Answers (text tree : List ℕ) (row : ℕ) (t : Tree) : Type 0 where
   pub display : isDisplay text tree row ≡ display text (firstLeaf t)
   pub inline : isInline text tree row ≡ inline text (firstLeaf t)
   pub valid : isValid text tree row ≡ matched text (firstLeaf t) (lastLeaf t)
+  pub whole : isWhole text tree row ≡ whole text t
 
 -- in rows that hold the node's, whatever stands before and behind
 pub on-trees : (text before after : List ℕ) (row from to : ℕ) (children : Forest)
@@ -241,4 +302,5 @@ on-trees text before after row from to children long =
       display = ap (display text) (found .first);
       inline = ap (inline text) (found .first);
       valid = ap₂ (matched text) (found .first) (found .last);
+      whole = whole-is tree row from to children stands text;
     }

@@ -1,11 +1,12 @@
-// The three questions of `FormulaItem` (syntax.rs), of a tree row.
+// The three questions of `FormulaItem` (syntax.rs) and the strict one, of a tree row.
 ghost use mathlib.Core.Path.{_≡_};
-ghost use Rattle.rules.specs.Questions.{firstToken, leafAt, oneOf, isDisplay, isInline, isValid};
+ghost use Rattle.rules.specs.Questions.{firstToken, leafAt, oneOf, isDisplay, isInline, isValid, isWhole};
 ghost use Rattle.rules.specs.SyntaxKind.{TokenDollar, TokenBeginMath};
-use crate::delimiter::dollars;
 use crate::delimiter::is_delimiter;
-use crate::delimiter::math;
+use crate::matched::matched;
+use crate::tokens::Found;
 use crate::tokens::first_token;
+use crate::tokens::formula;
 use crate::tokens::last_token;
 use syntax::SyntaxKind;
 
@@ -43,14 +44,22 @@ pub fn is_valid(text: &[u8], tree: &[u32], row: usize) -> bool
 {
     let first = first_token(tree, row);
     let last = last_token(tree, row);
-    if dollars(text, tree, first, last, b"$") {
-        return true;
+    matched(text, tree, first, last)
+}
+
+// Checks whether the formula is whole: its first and its last child are different leaves, and they match. A leaf is one row, so these are the row
+// behind the formula's start and the row before its finish; of a row that is no leaf `matched` says no.
+pub fn is_whole(text: &[u8], tree: &[u32], row: usize) -> bool
+    ensures { λ r. ⌜ r ≡ isWhole (now (text .entry)) (now (tree .entry)) row ⌝ }
+{
+    let finish = formula(tree, row);
+    let Found::At(to) = finish else {
+        return false;
+    };
+    let first = row + 1;
+    let last = to - 1;
+    if first < last {
+        return matched(text, tree, Found::At(first), Found::At(last));
     }
-    if dollars(text, tree, first, last, b"$$") {
-        return true;
-    }
-    if math(text, tree, first, last, b"\\(", b"\\)") {
-        return true;
-    }
-    math(text, tree, first, last, b"\\[", b"\\]")
+    false
 }

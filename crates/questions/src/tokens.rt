@@ -53,7 +53,7 @@ fn matching_finish(tree: &[u32], row: usize) -> Found
 }
 
 // The finish of the formula that starts in this row, if one does.
-fn formula(tree: &[u32], row: usize) -> Found
+pub fn formula(tree: &[u32], row: usize) -> Found
     ensures { λ r. ⌜ foundOf r ≡ formula (now (tree .entry)) row ⌝ }
 {
     if tagged(Tag::START, tree, row) {

@@ -33,3 +33,4 @@ pub mod Sim
 pub mod Simulation
 pub mod Table
 pub mod Turns
+pub mod Whole

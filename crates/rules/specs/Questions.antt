@@ -1,4 +1,5 @@
--- The questions about tree rows: three about a formula (`FormulaItem` of syntax.rs), whether a row is a leaf inside the text, and a leaf's text.
+-- The questions about tree rows: four about a formula (the three of `FormulaItem` of syntax.rs, and 02's strict one), whether a row is a leaf inside
+-- the text, and a leaf's text.
 -- They have an answer for any numbers in the place of rows.
 use Prim.Native.Nat.{ℕ, zero, suc, _+_, _-_, _/_}
 use mathlib.Core.Bool.{Bool, true, false, cond, _&&_, _||_}
@@ -188,6 +189,19 @@ isInline text tree row = inline text (leafAt tree (firstToken tree row))
 abbrev pub isValid : List ℕ → List ℕ → ℕ → Bool
 isValid text tree row = matched text (leafAt tree (firstToken tree row)) (leafAt tree (lastToken tree row))
 
+-- ---- the strict question
+-- "the formula's first and last child must be different leaf rows that match as opener and closer" (02, #106). A child that is a leaf is one row: the
+-- first is then the row behind the formula's start, and the last the row before its finish. So no child is gone into
+unfoldable pub wholeUpTo : List ℕ → List ℕ → ℕ → Option ℕ → Bool
+wholeUpTo text tree row none = false
+wholeUpTo text tree row (some finish) =
+    let first = row + 1 in
+    let last = finish - 1 in
+    ltb first last && matched text (leafAt tree (some first)) (leafAt tree (some last))
+
+abbrev pub isWhole : List ℕ → List ℕ → ℕ → Bool
+isWhole text tree row = wholeUpTo text tree row (formula tree row)
+
 -- ---- of a node of a tree: its tokens as rowan has them
 abbrev pub ofLeaf : builder.Leaf → Option Leaf
 ofLeaf l = some (l .kind, record { start = l .start; size = l .size })
@@ -211,3 +225,19 @@ unfoldable mutual
   pub lastOf : Forest → Option Leaf → Option Leaf
   lastOf Forest.none before = before
   lastOf (more child rest) before = lastOf rest (lastLeaf child)
+
+-- ---- of a node of a tree: its first and its last child, where these are leaves themselves
+abbrev pub childLeaf : Tree → Option Leaf
+childLeaf (leaf l) = ofLeaf l
+childLeaf (node kind from to children) = none
+
+-- the last of some children; `before` is the child before these
+unfoldable pub lastChild : Forest → Option Leaf → Option Leaf
+lastChild Forest.none before = before
+lastChild (more child rest) before = lastChild rest (childLeaf child)
+
+-- they are different: the last is one of those behind the first
+abbrev pub whole : List ℕ → Tree → Bool
+whole text (leaf l) = false
+whole text (node kind from to Forest.none) = false
+whole text (node kind from to (more first others)) = matched text (childLeaf first) (lastChild others none)

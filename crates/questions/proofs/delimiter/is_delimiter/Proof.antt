@@ -43,7 +43,7 @@ is-delimiter-spec =
     (λ c. search no-token)
     (λ c. search needs)
     (λ c κs. search (there, needs))
+    (λ c. search (other-kind, told))
     (λ c. search needs) (λ c. search needs)
     (λ c. search (this-kind, told))
-    (λ c. search (other-kind, told))
     (λ c. search (outside, told)))

@@ -4,12 +4,11 @@ use mathlib.Core.List.{List}
 use mathlib.Core.Option.{Option, none}
 use mathlib.Core.Path.{_≡_}
 use borrow.Author.Needs.{needs}
-use native.Mathlib.Omega.{arith}
 use Rattle.rules.specs.Questions.{formula, firstFrom, firstToken}
 use Rattle.questions.specs.Stands.{foundOf}
 use Rattle.questions.specs.declared.tokens.Found.{Found}
 use Rattle.questions.specs.declared.tokens.Found.the-variants.{At, Nothing}
-use Rattle.questions.proofs.Formulas.{behind, within}
+use Rattle.questions.proofs.Formulas.{behind, counted, within}
 use Rattle.questions.proofs.tokens.first_token.Statement.{statement}
 use Rattle.questions.proofs.tokens.first_token.Tie as tie
 
@@ -22,16 +21,12 @@ module _ (tree : List ℕ) (row : ℕ) {found : Found} (is : foundOf found ≡ f
   unfolding firstToken
   in-formula to here asked = rw (← is, here) asked
 
--- the row behind the formula's is not behind its finish
-add-first-from : tie.Need-add-first-from
-add-first-from c = let bounds = behind _ _ (c .before .before .before .formula .ensures) _ (c .before .finish .given .1) in omega arith
-
 pub first-token-spec : {M : Type 1} → statement M
 first-token-spec =
     tie.close
     (tie.spec
     (λ c. search needs) (λ c. search needs) (λ c. search needs)
     (λ c. search no-formula)
-    add-first-from
+    (λ c. search (counted, needs))
     (λ c κs. search (behind, within))
     (λ c. search in-formula))

@@ -2,8 +2,8 @@
 use borrow.Author.Needs.{needs}
 use Rattle.rules.specs.Questions.{between}
 use Rattle.questions.proofs.Tests.{first-no, and-rest}
-use Rattle.questions.proofs.delimiter.between.Statement.{statement}
-use Rattle.questions.proofs.delimiter.between.Tie as tie
+use Rattle.questions.proofs.matched.between.Statement.{statement}
+use Rattle.questions.proofs.matched.between.Tie as tie
 
 pub between-spec : {M : Type 1} → statement M
 unfolding between
