@@ -49,13 +49,22 @@ static void leaves(const uint32_t *tree, size_t rows)
     }
 }
 
-/* `$$a$$`: a start of kind 43, its three leaves, its finish. */
-static void formula(void)
+/* Whether a formula is display, inline, valid, whole. */
+static void formula(const char *source, const uint32_t *tree, size_t size)
 {
-    const uint8_t bytes[] = "$$a$$";
-    const uint32_t tree[] = {0, 43, 0, 0, 0, 1, 14, 0, 2, 0, 1, 13, 2, 1, 1, 1, 14, 3, 2, 2, 2, 43, 0, 0, 3};
-    printf("formula %d %d %d\n", cartglaze_is_display(bytes, 5, tree, COUNT(tree), 0),
-           cartglaze_is_inline(bytes, 5, tree, COUNT(tree), 0), cartglaze_is_valid(bytes, 5, tree, COUNT(tree), 0));
+    const uint8_t *bytes = (const uint8_t *)source;
+    size_t length = strlen(source);
+    printf("formula %s %d %d %d %d\n", source, cartglaze_is_display(bytes, length, tree, size, 0), cartglaze_is_inline(bytes, length, tree, size, 0),
+           cartglaze_is_valid(bytes, length, tree, size, 0), cartglaze_is_whole(bytes, length, tree, size, 0));
+}
+
+/* `$$a$$`: a start of kind 43, its three leaves, its finish. A lone `$`: one leaf. */
+static void formulas(void)
+{
+    const uint32_t shut[] = {0, 43, 0, 0, 0, 1, 14, 0, 2, 0, 1, 13, 2, 1, 1, 1, 14, 3, 2, 2, 2, 43, 0, 0, 3};
+    const uint32_t lone[] = {0, 43, 0, 0, 0, 1, 14, 0, 1, 0, 2, 43, 0, 0, 1};
+    formula("$$a$$", shut, COUNT(shut));
+    formula("$", lone, COUNT(lone));
 }
 
 int main(void)
@@ -69,7 +78,7 @@ int main(void)
     }
     list(true, first, second, tree, COUNT(tree), dropped);
     leaves(tree, first);
-    formula();
+    formulas();
 
     /* A number too few for the last row: refused 8, and zeros behind it. */
     if (!run(tree, COUNT(tree) - 1, dropped, &first, &second)) {

@@ -28,6 +28,7 @@ mod raw {
         pub fn cartglaze_is_display(text: *const u8, text_length: usize, tree: *const u32, tree_length: usize, row: usize) -> bool;
         pub fn cartglaze_is_inline(text: *const u8, text_length: usize, tree: *const u32, tree_length: usize, row: usize) -> bool;
         pub fn cartglaze_is_valid(text: *const u8, text_length: usize, tree: *const u32, tree_length: usize, row: usize) -> bool;
+        pub fn cartglaze_is_whole(text: *const u8, text_length: usize, tree: *const u32, tree_length: usize, row: usize) -> bool;
         pub fn cartglaze_is_leaf(text: *const u8, text_length: usize, tree: *const u32, tree_length: usize, row: usize) -> bool;
         pub fn cartglaze_leaf_start(text: *const u8, text_length: usize, tree: *const u32, tree_length: usize, row: usize) -> usize;
         pub fn cartglaze_leaf_length(text: *const u8, text_length: usize, tree: *const u32, tree_length: usize, row: usize) -> usize;
@@ -142,8 +143,12 @@ question!(
     /// Whether the row is a formula whose first token is `$` or `\(`.
     pub is_inline, cartglaze_is_inline, bool);
 question!(
-    /// Whether the row is a formula whose first and last token match.
+    /// Whether the row is a formula whose first and last token match: mitex's answer. A lone `$` is both, and valid. Print by [`is_whole`].
     pub is_valid, cartglaze_is_valid, bool);
+question!(
+    /// Whether the row is a formula whose first and last child are different leaves that match. A lone `$` is not whole, and `$a_$` isn't either: its
+    /// script reads the closing `$`. What is whole is valid.
+    pub is_whole, cartglaze_is_whole, bool);
 question!(
     /// Whether the row is a leaf inside the text.
     pub is_leaf, cartglaze_is_leaf, bool);

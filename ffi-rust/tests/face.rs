@@ -1,5 +1,5 @@
 //! The recorded list through the static library, and the questions.
-use cartglaze::{is_display, is_inline, is_leaf, is_valid, leaf_text, run, Answer, Tables, TREE_ROW};
+use cartglaze::{is_display, is_inline, is_leaf, is_valid, is_whole, leaf_text, run, Answer, Tables, TREE_ROW};
 
 /// Big-endian numbers out of bytes, from a place on.
 struct Bytes<'a>(&'a [u8]);
@@ -132,4 +132,33 @@ fn questions() {
     let part = leaf_text(text, &display, 2);
     assert_eq!((part, part.as_ptr()), (&text[2..3], text[2..].as_ptr()));
     assert_eq!(leaf_text(text, &display, 0).as_ptr_range(), text[..0].as_ptr_range());
+}
+
+/// Whether the formula that begins a text is valid and whole: its tokens, each a kind and a length, are read, and the root's first child is asked about.
+fn asked(text: &[u8], kinds: &[[u32; 2]]) -> (bool, bool) {
+    let mut start = 0;
+    let mut tokens = Vec::new();
+    for &[kind, length] in kinds {
+        tokens.extend([kind, start, length, 0]);
+        start += length;
+    }
+    assert_eq!(start as usize, text.len());
+    let (mut tree, mut dropped) = ([0; 20 * TREE_ROW], [0; 12]);
+    let answer = run(Tables { text, tokens: &tokens, shapes: &[], states: &[] }, &mut tree, &mut dropped);
+    assert!(matches!(answer, Answer::Accepted { .. }), "{answer:?}");
+    (is_valid(text, &tree, 1), is_whole(text, &tree, 1))
+}
+
+#[test]
+fn whole_is_stricter_than_valid() {
+    assert_eq!(asked(b"$a$", &[[22, 1], [21, 1], [22, 1]]), (true, true));
+    assert_eq!(asked(br"$\iffalse\fi$", &[[22, 1], [33, 8], [37, 3], [22, 1]]), (true, true));
+    // One token is both ends.
+    assert_eq!(asked(b"$", &[[22, 1]]), (true, false));
+    // A script, a brace that is left open and a skipped body have the closer inside.
+    assert_eq!(asked(b"$a_$", &[[22, 1], [21, 1], [20, 1], [22, 1]]), (true, false));
+    assert_eq!(asked(b"${a$", &[[22, 1], [3, 1], [21, 1], [22, 1]]), (true, false));
+    assert_eq!(asked(br"\(\iffalse\)\fi", &[[29, 2], [33, 8], [30, 2], [37, 3]]), (true, false));
+    // It ends before the closer.
+    assert_eq!(asked(b"$a", &[[22, 1], [21, 1]]), (false, false));
 }

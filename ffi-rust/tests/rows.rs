@@ -1,8 +1,8 @@
-//! Any rows for the questions, held to document 01's sentences said a second time.
+//! Any rows for the questions, held to the sentences of documents 01 and 02 said a second time.
 #[path = "guarded/numbers.rs"]
 mod numbers;
 
-use cartglaze::{is_display, is_inline, is_leaf, is_valid, leaf_text, TREE_ROW};
+use cartglaze::{is_display, is_inline, is_leaf, is_valid, is_whole, leaf_text, TREE_ROW};
 use numbers::Numbers;
 
 /// Two dollars, then the other delimiters, one every two bytes.
@@ -47,22 +47,33 @@ fn token(row: Option<&Row>) -> Token {
 }
 
 /// "First and last token descend into the first and last child; an empty node there gives none": past the starts, and back past the finishes.
-fn tokens(rows: &[Row], row: usize) -> (Token, Token) {
-    let between = (row < rows.len()).then(|| inside(rows, row)).flatten().unwrap_or(&[]);
+fn tokens(between: &[Row]) -> (Token, Token) {
     (token(between.iter().find(|row| row[0] != 0)), token(between.iter().rev().find(|row| row[0] != 2)))
 }
 
-fn expected(rows: &[Row], row: usize) -> [bool; 4] {
-    let (first, last) = tokens(rows, row);
-    let display = matches!(first, Some((14, b"$$") | (15, br"\[")));
-    let inline = matches!(first, Some((14, b"$") | (15, br"\(")));
-    let close: Token = match first {
+/// What closes that which a token opens.
+fn closer(opener: Token) -> Token {
+    match opener {
         Some((15, br"\(")) => Some((16, br"\)")),
         Some((15, br"\[")) => Some((16, br"\]")),
-        _ => first,
+        Some((14, b"$" | b"$$")) => opener,
+        _ => None,
+    }
+}
+
+fn expected(rows: &[Row], row: usize) -> [bool; 5] {
+    let between = (row < rows.len()).then(|| inside(rows, row)).flatten().unwrap_or(&[]);
+    let (first, last) = tokens(between);
+    let display = matches!(first, Some((14, b"$$") | (15, br"\[")));
+    let inline = matches!(first, Some((14, b"$") | (15, br"\(")));
+    let valid = last.is_some() && closer(first) == last;
+    // "the formula's first and last child must be different leaf rows that match as opener and closer"
+    let whole = between.len() > 1 && {
+        let last = token(between.last());
+        last.is_some() && closer(token(between.first())) == last
     };
     let is_leaf = row < rows.len() && leaf(rows[row]).is_some();
-    [display, inline, (display || inline) && close == last, is_leaf]
+    [display, inline, valid, whole, is_leaf]
 }
 
 /// Numbers at which tags, kinds and types end.
@@ -79,9 +90,15 @@ fn any_row(numbers: &mut Numbers) -> Row {
         0 => [0, 43, 0, 0, token],
         1 => [0, 1, 0, 0, token],
         2 | 3 => {
-            let place = numbers.below(5);
-            let kind = if place == 0 { 14 } else { 15 + numbers.below(2) };
-            [1, kind, place * 2, if place == 0 { 1 + numbers.below(2) } else { 2 }, token]
+            // At place 0 a `$` or `$$`, at 5 a `$` that begins in the text or right behind it, and ends outside.
+            let place = numbers.below(6);
+            let kind = if place % 5 == 0 { 14 } else { 15 + numbers.below(2) };
+            let (start, length) = match place {
+                0 => (0, 1 + numbers.below(2)),
+                5 => (10 + numbers.below(2), 2),
+                _ => (place * 2, 2),
+            };
+            [1, kind, start, length, token]
         }
         _ => [2, 43, 0, 0, token],
     }
@@ -90,7 +107,7 @@ fn any_row(numbers: &mut Numbers) -> Row {
 #[test]
 fn any_rows() {
     let mut numbers = Numbers(0x9E37_79B9_7F4A_7C15);
-    let mut yes = [0; 4];
+    let mut yes = [0; 5];
     for _ in 0..200_000 {
         let mut tree: Vec<u32> = (0..numbers.below(7)).flat_map(|_| any_row(&mut numbers)).collect();
         // What is left over behind the last whole row is no row.
@@ -98,13 +115,13 @@ fn any_rows() {
         let rows = rows(&tree);
         for row in (0..=rows.len() + 1).chain([1 << 30, 1 << 32, usize::MAX / TREE_ROW, usize::MAX / TREE_ROW + 1, usize::MAX]) {
             let expected = expected(&rows, row);
-            let asked = [is_display(TEXT, &tree, row), is_inline(TEXT, &tree, row), is_valid(TEXT, &tree, row), is_leaf(TEXT, &tree, row)];
+            let asked = [is_display, is_inline, is_valid, is_whole, is_leaf].map(|question| question(TEXT, &tree, row));
             assert_eq!(asked, expected, "row {row} of {rows:?}");
-            let part = if expected[3] { leaf(rows[row]).unwrap() } else { &TEXT[..0] };
+            let part = if expected[4] { leaf(rows[row]).unwrap() } else { &TEXT[..0] };
             assert_eq!(leaf_text(TEXT, &tree, row).as_ptr_range(), part.as_ptr_range(), "row {row} of {rows:?}");
             yes.iter_mut().zip(expected).for_each(|(yes, expected)| *yes += usize::from(expected));
         }
     }
-    println!("display, inline, valid, leaf: {yes:?}");
+    println!("display, inline, valid, whole, leaf: {yes:?}");
     assert!(yes.iter().all(|&count| count > 0), "{yes:?}");
 }

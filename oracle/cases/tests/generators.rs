@@ -135,10 +135,15 @@ fn questions_about_formulas_have_the_rust_s_answers() {
     });
 }
 
-fn model_questions(text: &str, run: &Run) -> Vec<[bool; 3]> {
+fn model_questions(text: &str, run: &Run) -> Vec<[bool; 4]> {
     let (text, rows) = (text.as_bytes(), &run.rows);
     let starts = |&at: &usize| rows[at].tag == sheet::START && rows[at].kind == 43;
-    let questions = [model::is_display, model::is_inline, model::is_valid];
+    let questions = [
+        model::is_display,
+        model::is_inline,
+        model::is_valid,
+        model::is_whole,
+    ];
     let formulas = (0..rows.len()).filter(starts);
     formulas
         .map(|at| questions.map(|q| q(text, rows, at)))

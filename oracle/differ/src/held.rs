@@ -33,20 +33,32 @@ const BEFORE: u32 = 0xdead_beef;
 /// The kind of a formula's node.
 const FORMULA: u32 = 43;
 
-/// The first difference between the runner and the Rust, with both answers, or how many
-/// answers were the same.
+/// Whether a formula is display, inline, valid, whole.
+pub type Questions = [bool; 4];
+
+/// What was the same: how many answers, and what was answered about each formula of the tree
+/// with room enough.
+#[derive(Debug, Default, PartialEq, Eq)]
+pub struct Same {
+    pub answers: usize,
+    pub formulas: Vec<Questions>,
+}
+
+/// The first difference between the runner and the Rust, with both answers, or what was the
+/// same.
 pub fn difference(
     run: &Run,
     text: &str,
     spec: &Spec,
     rooms: Rooms,
     runner: Runner,
-) -> Result<usize, String> {
-    let rooms = rooms.of(run.writes.len());
-    for &room in &rooms {
-        answer_differs(run, text, spec, room, runner)?;
+) -> Result<Same, String> {
+    let mut same = Same::default();
+    for room in rooms.of(run.writes.len()) {
+        same.formulas = answer_differs(run, text, spec, room, runner)?;
+        same.answers += 1;
     }
-    Ok(rooms.len())
+    Ok(same)
 }
 
 fn answer_differs(
@@ -55,7 +67,7 @@ fn answer_differs(
     spec: &Spec,
     room: usize,
     runner: Runner,
-) -> Result<(), String> {
+) -> Result<Vec<Questions>, String> {
     let mut tree = vec![BEFORE; Row::numbers_for(room)];
     let mut dropped = vec![BEFORE; 3 * run.tables.token_count()];
     let ran = runner(&run.tables, &mut tree, &mut dropped);
@@ -74,7 +86,7 @@ fn answer_differs(
             texts_differ(run, text, rows, &tree)?;
             questions_differ(text, spec, rows, &tree)
         }
-        Answer::Refused { .. } => Ok(()),
+        Answer::Refused { .. } => Ok(Vec::new()),
     }
 }
 
@@ -129,11 +141,16 @@ fn texts_differ(run: &Run, text: &str, rows: &[Row], tree: &[u32]) -> Result<(),
     }
 }
 
-fn questions_differ(text: &str, spec: &Spec, rows: &[Row], tree: &[u32]) -> Result<(), String> {
+fn questions_differ(
+    text: &str,
+    spec: &Spec,
+    rows: &[Row],
+    tree: &[u32],
+) -> Result<Vec<Questions>, String> {
     let starts = |(at, row): (usize, &Row)| (row.tag == START && row.kind == FORMULA).then_some(at);
     let formulas: Vec<usize> = rows.iter().enumerate().filter_map(starts).collect();
     if formulas.is_empty() {
-        return Ok(());
+        return Ok(Vec::new());
     }
     let bytes = text.as_bytes();
     let ask = |at: usize| {
@@ -141,14 +158,15 @@ fn questions_differ(text: &str, spec: &Spec, rows: &[Row], tree: &[u32]) -> Resu
             port::is_display(bytes, tree, at),
             port::is_inline(bytes, tree, at),
             port::is_valid(bytes, tree, at),
+            port::is_whole(bytes, tree, at),
         ]
     };
-    let told: Vec<[bool; 3]> = formulas.into_iter().map(ask).collect();
+    let told: Vec<Questions> = formulas.into_iter().map(ask).collect();
     let rust = formula_questions(text, spec);
     match told == rust {
-        true => Ok(()),
+        true => Ok(told),
         false => Err(format!(
-            "display, inline, valid: {rust:?}\nthe port: {told:?}"
+            "display, inline, valid, whole: {rust:?}\nthe port: {told:?}"
         )),
     }
 }

@@ -7,7 +7,7 @@ use cases::dice::Dice;
 use cases::smallest;
 use sheet::Answer;
 
-use crate::held::{difference, Rooms, Runner};
+use crate::held::{difference, Questions, Rooms, Runner};
 
 #[derive(Debug, Default)]
 pub struct Tally {
@@ -20,6 +20,9 @@ pub struct Tally {
     outside: usize,
     /// By their answer with room enough; 0 is accepted.
     refused: [usize; 9],
+    /// Formulas of all trees with room enough, and of how many each question said yes.
+    formulas: usize,
+    yes: [usize; 4],
 }
 
 impl Tally {
@@ -35,11 +38,23 @@ impl Tally {
         };
         self.count(&run);
         match difference(&run, text, spec, Rooms::Some(dice), runner) {
-            Ok(answers) => self.answers += answers,
+            Ok(same) => {
+                self.answers += same.answers;
+                same.formulas
+                    .into_iter()
+                    .for_each(|formula| self.asked(formula));
+            }
             Err(_) => {
                 self.differ += 1;
                 println!("{}", cut_down(text, spec, runner));
             }
+        }
+    }
+
+    fn asked(&mut self, formula: Questions) {
+        self.formulas += 1;
+        for (yes, said) in self.yes.iter_mut().zip(formula) {
+            *yes += usize::from(said);
         }
     }
 
@@ -80,6 +95,12 @@ impl fmt::Display for Tally {
         writeln!(
             f,
             "with room enough: {accepted} accepted, {five} refused 5, {six} refused 6, {seven} refused 7"
+        )?;
+        let [display, inline, valid, whole] = self.yes;
+        writeln!(
+            f,
+            "{} formulas in the trees: {display} display, {inline} inline, {valid} valid, {whole} whole",
+            self.formulas
         )?;
         writeln!(f, "the lexer panicked on {} more", self.outside)?;
         write!(f, "{} cases, {} differ", self.cases, self.differ)

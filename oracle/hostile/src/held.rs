@@ -1,11 +1,14 @@
 //! One case held against the model.
 
 use cases::dice::Dice;
-use model::{is_display, is_inline, is_valid};
-use sheet::{Ran, Refusal, Row, Tables, LEAF};
+use sheet::{Ran, Refusal, Row, Tables, START};
 
 use crate::buffers::{Around, Lent};
 use crate::case::Case;
+use crate::questions::{answers_differ, by_port};
+
+/// The kind of a formula's node.
+const FORMULA: u32 = 43;
 
 /// A run over lent buffers: the port's, or in tests one that is wrong on purpose.
 pub type Runner<'r> = &'r dyn Fn(&Tables, &mut [u32], &mut [u32]) -> Ran;
@@ -64,38 +67,11 @@ fn kept(ran: Ran, before: &[Lent; 2], after: &[Lent; 2]) -> Result<(), String> {
 /// The questions about some row, of whatever the tree buffer holds.
 fn asked(case: &Case, dice: &mut Dice, tree: &Lent) -> Result<(), String> {
     let (text, tree) = (&case.tables.text[..], tree.lent());
-    let rows: Vec<Row> = tree.chunks_exact(Row::WIDTH).map(Row::of).collect();
-    let formula = rows.iter().position(|row| row.tag == 0 && row.kind == 43);
-    for at in [dice.below(rows.len() + 2), formula.unwrap_or(0)] {
-        let told = [
-            port::is_display(text, tree, at),
-            port::is_inline(text, tree, at),
-            port::is_valid(text, tree, at),
-            port::is_leaf(text, tree, at),
-        ];
-        let part = leaf(text, rows.get(at));
-        let expected = [
-            is_display(text, &rows, at),
-            is_inline(text, &rows, at),
-            is_valid(text, &rows, at),
-            part.is_some(),
-        ];
-        if told != expected {
-            return Err(format!(
-                "row {at}: the model {expected:?}, the port {told:?}"
-            ));
-        }
-        let part = part.unwrap_or(&text[..0]);
-        if port::leaf_text(text, tree, at).as_ptr_range() != part.as_ptr_range() {
-            return Err(format!("row {at}: another part of the text"));
-        }
+    let mut rows = tree.chunks_exact(Row::WIDTH).map(Row::of);
+    let by_chance = dice.below(rows.len() + 2);
+    let formula = rows.position(|row| row.tag == START && row.kind == FORMULA);
+    for at in [by_chance, formula.unwrap_or(0)] {
+        answers_differ(text, tree, at, &by_port)?;
     }
     Ok(())
-}
-
-/// The text of a leaf that lies inside the text.
-fn leaf<'t>(text: &'t [u8], row: Option<&Row>) -> Option<&'t [u8]> {
-    let row = row.filter(|row| row.tag == LEAF)?;
-    let (start, len) = (row.start as usize, row.len as usize);
-    text.get(start..start + len)
 }

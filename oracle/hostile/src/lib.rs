@@ -1,10 +1,13 @@
 //! Tables that no lexer makes, through the proved library and the model of document 01:
-//! the answers, and every element of both lent buffers before and after.
+//! the answers, and every element of both lent buffers before and after. Rows that no run
+//! gives, for the questions.
 
 mod buffers;
 mod case;
 mod damage;
 mod held;
+mod questions;
+mod rows;
 mod smaller;
 mod text;
 mod tokens;
@@ -12,4 +15,6 @@ mod tokens;
 pub use buffers::{Around, Lent};
 pub use case::Case;
 pub use held::{difference, Runner};
+pub use questions::{by_model, by_port, Answers, Asked};
+pub use rows::{Rows, TEXT};
 pub use smaller::smallest;

@@ -1,10 +1,11 @@
-//! Tables that no lexer makes: `hostile CASES SEED [bare]`. With `bare` nothing lies around
-//! the lent buffers, for a tool that watches memory.
+//! Tables that no lexer makes, and rows that no run gives: `hostile CASES SEED [bare]`, so
+//! many of each. With `bare` nothing lies around the lent buffers, for a tool that watches
+//! memory.
 
 use std::process::ExitCode;
 
 use cases::dice::Dice;
-use hostile::{difference, smallest, Around, Case};
+use hostile::{by_port, difference, smallest, Answers, Around, Case, Rows};
 
 fn main() -> ExitCode {
     let words: Vec<String> = std::env::args().skip(1).collect();
@@ -15,7 +16,11 @@ fn main() -> ExitCode {
         _ => (Ok(0), Ok(0), Around::Nothing),
     };
     match (count, seed) {
-        (Ok(count), Ok(seed)) if count > 0 => compare(count, seed, around),
+        (Ok(count), Ok(seed)) if count > 0 => {
+            let differ = ask(count, seed) + compare(count, seed, around);
+            println!("{count} cases, {differ} differ");
+            ExitCode::from(u8::from(differ > 0))
+        }
         _ => {
             eprintln!("usage: hostile CASES SEED [bare]");
             ExitCode::FAILURE
@@ -23,7 +28,36 @@ fn main() -> ExitCode {
     }
 }
 
-fn compare(count: usize, seed: u64, around: Around) -> ExitCode {
+/// Asks about each row of so many trees, and says how many differ.
+fn ask(count: usize, seed: u64) -> usize {
+    let mut dice = Dice::new(!seed);
+    let mut yes = [0; 5];
+    let mut differ = 0;
+    for _ in 0..count {
+        let rows = Rows::by_chance(&mut dice);
+        match rows.difference(&by_port) {
+            Ok(answers) => answers.iter().for_each(|row| count_yes(&mut yes, row)),
+            Err(said) => {
+                differ += 1;
+                println!("differs: {rows:?}\n{said}");
+            }
+        }
+    }
+    let [display, inline, valid, whole, leaf] = yes;
+    println!(
+        "rows: {display} display, {inline} inline, {valid} valid, {whole} whole, {leaf} leaves"
+    );
+    differ
+}
+
+fn count_yes(yes: &mut [usize; 5], answers: &Answers) {
+    for (yes, &said) in yes.iter_mut().zip(answers) {
+        *yes += usize::from(said);
+    }
+}
+
+/// Runs so many tables, and says how many differ.
+fn compare(count: usize, seed: u64, around: Around) -> usize {
     let mut dice = Dice::new(seed);
     let mut by_number = [0; 9];
     let mut differ = 0;
@@ -41,8 +75,7 @@ fn compare(count: usize, seed: u64, around: Around) -> ExitCode {
     for (number, count) in by_number.iter().enumerate().skip(1) {
         println!("refused {number}: {count}");
     }
-    println!("{count} cases, {differ} differ");
-    ExitCode::from(u8::from(differ > 0))
+    differ
 }
 
 /// Prints the smallest case that still differs, with both answers.

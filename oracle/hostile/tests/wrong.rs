@@ -1,9 +1,9 @@
 //! Runs that are wrong on purpose are told from the model's.
 
 use cases::dice::Dice;
-use hostile::{difference, smallest, Around, Case, Runner};
+use hostile::{by_model, difference, smallest, Answers, Around, Asked, Case, Rows, Runner, TEXT};
 use model::Slip;
-use sheet::{Counts, Ran, Refusal, Row, Tables};
+use sheet::{Counts, Ran, Refusal, Row, Tables, FINISH, LEAF};
 
 /// The first case by chance on which a runner differs, cut down.
 fn first(runner: Runner) -> Option<Case> {
@@ -87,4 +87,60 @@ fn a_refusal_that_writes_is_found() {
         ran
     };
     assert!(first(&writes).is_some());
+}
+
+/// Where these answers stand among those about a row.
+const INLINE: usize = 1;
+const VALID: usize = 2;
+const WHOLE: usize = 3;
+
+/// The first rows by chance on which someone who answers wrongly is found.
+fn first_rows(asked: Asked) -> Option<Rows> {
+    let mut dice = Dice::new(5);
+    let mut rows = (0..20_000).map(|_| Rows::by_chance(&mut dice));
+    rows.find(|rows| rows.difference(asked).is_err())
+}
+
+/// Whether a formula has one leaf inside and nothing else.
+fn alone(tree: &[u32], at: usize) -> bool {
+    let tag = |at: usize| tree[Row::WIDTH * at];
+    (tag(at + 1), tag(at + 2)) == (LEAF, FINISH)
+}
+
+/// The model's answers with another one to the strict question.
+fn but_whole(whole: bool, [display, inline, valid, _, leaf]: Answers) -> Answers {
+    [display, inline, valid, whole, leaf]
+}
+
+#[test]
+fn the_model_answers_as_itself() {
+    assert!(first_rows(&by_model).is_none());
+}
+
+#[test]
+fn a_strict_question_that_goes_into_children_is_found() {
+    let goes_into = |text: &[u8], tree: &[u32], at: usize| {
+        let right = by_model(text, tree, at);
+        but_whole(right[VALID] && !alone(tree, at), right)
+    };
+    assert!(first_rows(&goes_into).is_some());
+}
+
+#[test]
+fn a_strict_question_that_takes_one_row_for_both_is_found() {
+    let lone = |text: &[u8], tree: &[u32], at: usize| {
+        let right = by_model(text, tree, at);
+        but_whole(right[WHOLE] || right[VALID] && alone(tree, at), right)
+    };
+    assert!(first_rows(&lone).is_some());
+}
+
+#[test]
+fn a_strict_question_that_takes_a_closer_outside_the_text_is_found() {
+    let outside = |text: &[u8], tree: &[u32], at: usize| {
+        let right = by_model(text, tree, at);
+        let more = [text, &TEXT[text.len()..]].concat();
+        but_whole(right[INLINE] && by_model(&more, tree, at)[WHOLE], right)
+    };
+    assert!(first_rows(&outside).is_some());
 }

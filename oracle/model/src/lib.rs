@@ -17,7 +17,7 @@ mod rows;
 mod slip;
 mod stops;
 
-pub use questions::{is_display, is_inline, is_valid};
+pub use questions::{is_display, is_inline, is_valid, is_whole};
 pub use slip::Slip;
 
 use reader::Reader;

@@ -22,10 +22,27 @@ pub fn is_inline(text: &[u8], rows: &[Row], at: usize) -> bool {
 
 /// Whether the first and the last token of the formula match. They may be the same.
 pub fn is_valid(text: &[u8], rows: &[Row], at: usize) -> bool {
-    let Some((first, last)) = edges(rows, at) else {
+    edges(rows, at).is_some_and(|(first, last)| matching(leaf(text, first), leaf(text, last)))
+}
+
+/// Whether the formula's first and last child are different leaf rows that match as opener
+/// and closer. What stands right behind its start begins its first child, and what stands
+/// right before its finish ends its last.
+pub fn is_whole(text: &[u8], rows: &[Row], at: usize) -> bool {
+    let Some([first, .., last]) = inside(rows, at) else {
         return false;
     };
-    match (leaf(text, first), leaf(text, last)) {
+    first.tag == LEAF
+        && last.tag == LEAF
+        && matching(leaf(text, Some(first)), leaf(text, Some(last)))
+}
+
+/// A token's kind and text.
+type Token<'t> = (u32, &'t [u8]);
+
+/// Whether two tokens match as opener and closer.
+fn matching(first: Option<Token>, last: Option<Token>) -> bool {
+    match (first, last) {
         (Some((DOLLAR, first)), Some((DOLLAR, last))) => {
             first == last && (first == b"$" || first == b"$$")
         }
@@ -38,15 +55,20 @@ pub fn is_valid(text: &[u8], rows: &[Row], at: usize) -> bool {
 
 /// The rows where a formula's first and last token are looked for.
 fn edges(rows: &[Row], at: usize) -> Option<(Option<&Row>, Option<&Row>)> {
-    let start = rows.get(at)?;
-    if start.tag != START || start.kind != TREE_FORMULA {
-        return None;
-    }
-    let inside = &rows[at + 1..finish(rows, at)?];
+    let inside = inside(rows, at)?;
     let first = inside.iter().find(|row| row.tag != START);
     let last = inside.iter().rev().find(|row| row.tag != FINISH);
     let a_leaf = |row: &&Row| row.tag == LEAF;
     Some((first.filter(a_leaf), last.filter(a_leaf)))
+}
+
+/// The rows between a formula's start and its matching finish.
+fn inside(rows: &[Row], at: usize) -> Option<&[Row]> {
+    let start = rows.get(at)?;
+    if start.tag != START || start.kind != TREE_FORMULA {
+        return None;
+    }
+    Some(&rows[at + 1..finish(rows, at)?])
 }
 
 /// The first later row where starts and finishes balance.
@@ -67,7 +89,7 @@ fn finish(rows: &[Row], at: usize) -> Option<usize> {
 }
 
 /// A leaf's kind and text, if it lies inside the text.
-fn leaf<'t>(text: &'t [u8], row: Option<&Row>) -> Option<(u32, &'t [u8])> {
+fn leaf<'t>(text: &'t [u8], row: Option<&Row>) -> Option<Token<'t>> {
     let row = row?;
     let (start, len) = (row.start as usize, row.len as usize);
     text.get(start..start + len).map(|part| (row.kind, part))

@@ -3,7 +3,7 @@
 use cartglaze::Answer;
 use sheet::{Counts, Ran, Refusal, Row, Tables};
 
-pub use cartglaze::{is_display, is_inline, is_leaf, is_valid, leaf_text};
+pub use cartglaze::{is_display, is_inline, is_leaf, is_valid, is_whole, leaf_text};
 
 // Both sides speak of the same rows.
 const _: () = assert!(cartglaze::TREE_ROW == Row::WIDTH);
