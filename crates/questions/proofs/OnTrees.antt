@@ -1,6 +1,6 @@
--- In rows that a tree is laid out in, the questions of a formula's row have the answers that the source has of its node. By induction over the tree
--- the walk to the finish passes each child's rows as one; the first and the last row that it does not pass are the leaves that rowan descends to.
--- Assumes nothing.
+-- In rows that a tree is laid out in, the questions of a formula's row have the answers that the source has of its node, and the strict one has 02's.
+-- By induction over the tree the walk to the finish passes each child's rows as one; the first and the last row that it does not pass are the leaves
+-- that rowan descends to, and the first and the last row of all are those of the first and the last child. Assumes nothing.
 use Prim.Native.Nat.{ℕ, _+_, _*_, _-_, _≤_, _<_}
 use mathlib.Core.Bool.{and-false}
 use mathlib.Core.List.{List, [], _∷_, _++_, append-assoc}
@@ -229,7 +229,7 @@ module _ (tree : List ℕ) where
       let here : at + (size child + sizes (more next rest)) ≡ at + size child + sizes (more next rest) = omega arith in
       rw here (children-last next rest (at + size child) (childLeaf child) others)
 
-  -- the first row inside is the first child's, and the last row the last's. Two children have two rows at least; a child alone has one row, or it is a
+  -- the first row inside is the first child's, and the last row the last's. Two children have two rows at least; a child alone has one row, or is a
   -- node, whose first row is no leaf
   whole-inside : (text : List ℕ) (row from to : ℕ) (f : Forest)
       → Stands tree (row + 1) (layouts f)
@@ -242,9 +242,11 @@ module _ (tree : List ℕ) where
       let child = node kind begun ended children in
       rw (child-first child (row + 1) (split child Forest.none s .first), no-first text, and-false) (sym (no-first text none))
   whole-inside text row from to (more child (more next rest)) s =
-      let two : row + 1 < row + 1 + sizes (more child (more next rest)) - 1 = omega (arith, some-rows child, some-rows next) in
-      rw (lt-ltb (row + 1) (row + 1 + sizes (more child (more next rest)) - 1) two)
-      (ap₂ (matched text) (child-first child (row + 1) (split child (more next rest) s .first)) (children-last child (more next rest) (row + 1) none s))
+      let last = row + 1 + sizes (more child (more next rest)) - 1 in
+      let two : row + 1 < last = omega (arith, some-rows child, some-rows next) in
+      let first-is = child-first child (row + 1) (split child (more next rest) s .first) in
+      let last-is = children-last child (more next rest) (row + 1) none s in
+      rw (lt-ltb (row + 1) last two) (ap₂ (matched text) first-is last-is)
 
 -- ---- a formula's tokens, by the rows, are those that rowan has of its node
 pub record Tokens (tree : List ℕ) (row : ℕ) (t : Tree) : Type 0 where

@@ -160,7 +160,8 @@ rows-went : (p q : Here) (o : Out Rows) → atRows p o ≡ went q → o ≡ went
 rows-went p q (went x) e = ap (λ (y : Rows). went y) (ap tree-of e)
 rows-went p q (refused number at) e = let z : _≡_ {A = ℕ} 0 1 = cc in absurd (omega arith)
 
--- a step of the rules made a row, whose fifth number is the position's place; where the rows fill the buffer, the same step is refused 8 at that place
+-- a step of the rules made a row, whose fifth number is the position's place; where the rows fill the buffer, the same step is refused 8 at that
+-- place
 pub record Made (step : ℕ → Out Here) (row : List ℕ) (p q : Here) : Type 0 where
   pub front : List ℕ
   pub back : List ℕ

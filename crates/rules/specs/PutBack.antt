@@ -30,8 +30,8 @@ pub record Stretch : Type 0 where
   pub size : ℕ
   pub token : ℕ
 
--- "Tree row: tag (0 start, 1 leaf, 2 finish), kind, start, length", and a leaf's own token, which is 0 where a row has only the first four numbers: of
--- each leaf, in row order
+-- "Tree row: tag (0 start, 1 leaf, 2 finish), kind, start, length", and a leaf's own token, which is 0 where a row has only the first four numbers:
+-- of each leaf, in row order
 abbrev pub leaves : List (List ℕ) → List Stretch
 leaves [] = []
 leaves (row ∷ rows) =

@@ -1,5 +1,5 @@
--- Questions about trees and their answers, as two tables, of trees as they are written and of formulas that are read first, and a theorem over each that
--- antt computes.
+-- Questions about trees and their answers, as two tables, of trees as they are written and of formulas that are read first, and over each table one
+-- theorem that antt computes.
 use Prim.Native.Nat.{ℕ}
 use Prim.Native.String.{String}
 use mathlib.Core.Path.{_≡_, refl}
@@ -7,9 +7,9 @@ use mathlib.Core.Bool.{Bool, true, false}
 use mathlib.Core.List.{List, [], _∷_, _++_, map}
 use lib.ListN.{replicate}
 use Rattle.rules.specs.Checks.{Tables}
-use Rattle.rules.specs.Computed.{the-run}
+use Rattle.rules.specs.Computed.{the-run, the-questions}
 use Rattle.rules.specs.Flat.{leafRow, startRow, finishRow, withToken}
-use Rattle.rules.specs.Notation.{bytes, Part, _of_, textOf, tokensOf, Shown, nothing, node, leaf, _&_, gone, rowsAt, Root, Text, BlockComment}
+use Rattle.rules.specs.Notation.{bytes, Part, _of_, textOf, tokensOf, Shown, nothing, node, leaf, _&_, rowsAt, Root, Text, BlockComment}
 use Rattle.rules.specs.Questions
 use Rattle.rules.specs.Run.{run}
 use Rattle.rules.specs.SyntaxKind.{ItemFormula, ItemText, ScopeRoot, TokenWord, TokenDollar, TokenBeginMath, TokenEndMath}
@@ -85,7 +85,7 @@ cases =
     ∷ formulaAt 1 (inRoot (dollar "$" & BlockComment nothing)) "$\\iffalse\\fi" (false, true, false, false)
     ∷ formulaAt 1 (inRoot (BlockComment nothing & dollar "$")) "$" noFormula
     -- between a `$` and another an empty node is a child as others are
-    ∷ formulaAt 1 (inRoot (dollar "$" & gone "\\iffalse" & BlockComment nothing & gone "\\fi" & dollar "$")) "$\\iffalse\\fi$" (false, true, true, true)
+    ∷ formulaAt 1 (inRoot (dollar "$" & BlockComment nothing & dollar "$")) "$$" (false, true, true, true)
     -- the tokens lie deeper: both, the first, the last. They match, and are no children of the formula
     ∷ formulaAt 1 (inRoot (node ItemText (node ItemText (dollar "$")) & node ItemText (dollar "$"))) "$$" (false, true, true, false)
     ∷ formulaAt 1 (inRoot (node ItemText (dollar "$") & dollar "$")) "$$" (false, true, true, false)
@@ -132,7 +132,7 @@ abbrev pub wanted : Case → Formula × Leaf
 wanted c = (c .formula, c .leaf)
 
 pub examples : map asked cases ≡ map wanted cases
-unfolding Questions.tagged Questions.rangeAt Questions.isLeaf Questions.leafRange Questions.leafText Questions.openAfter Questions.balance Questions.formula Questions.firstFrom Questions.lastBefore Questions.firstToken Questions.lastToken Questions.same Questions.isDelimiter Questions.oneOf Questions.between Questions.matched Questions.wholeUpTo
+unfolding the-questions
 examples = refl
 
 -- ---- formulas that are read first
@@ -176,5 +176,5 @@ abbrev pub wantedOf : Read → Bool × Bool
 wantedOf r = (r .valid, r .whole)
 
 pub read-examples : map askedOf readings ≡ map wantedOf readings
-unfolding the-run Questions.tagged Questions.rangeAt Questions.openAfter Questions.balance Questions.formula Questions.firstFrom Questions.lastBefore Questions.firstToken Questions.lastToken Questions.same Questions.isDelimiter Questions.between Questions.matched Questions.wholeUpTo
+unfolding the-run the-questions
 read-examples = refl

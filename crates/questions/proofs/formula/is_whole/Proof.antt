@@ -1,5 +1,5 @@
--- `is_whole` meets its contract: of the formula that was found it asks what the rule asks, whether first and last row inside it are two, and whether these
--- match. Assumes nothing.
+-- `is_whole` meets its contract: of the formula that was found it asks what the rule asks, whether the first and the last row inside it are two, and
+-- whether these match. Assumes nothing.
 use Prim.Native.Nat.{ℕ, _+_, _-_, _<_, _≤_}
 use mathlib.Core.Bool.{Bool, false}
 use mathlib.Core.List.{List}
