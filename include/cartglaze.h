@@ -65,9 +65,10 @@ bool cartglaze_run(const uint8_t *text, size_t text_length,
                    uint32_t *dropped, size_t dropped_length,
                    size_t *first, size_t *second);
 
-/* Questions about row `row` of tree rows, for any numbers in their place and any row. None looks at a row's last number. No unless the row starts a
- * formula (kind 43) that has its matching finish, whatever kind that names, and the tokens that are asked about lie inside the text. First and last
- * token are looked for in the first and the last child too. */
+/* Questions about row `row` of tree rows, for any numbers in their place and any row. None looks at a row's last number.
+ *
+ * The first four say no unless the row starts a formula (kind 43) that has its matching finish, whatever kind that names, and the leaves that they ask
+ * about lie inside the text. The first token is the first child where that is a leaf, else the first child's own first token; the last alike. */
 
 /* Whether its first token is `$$` or `\[`. */
 bool cartglaze_is_display(const uint8_t *text, size_t text_length, const uint32_t *tree, size_t tree_length, size_t row);
@@ -79,8 +80,8 @@ bool cartglaze_is_inline(const uint8_t *text, size_t text_length, const uint32_t
  * mitex's answer. To decide what is printed, ask cartglaze_is_whole. */
 bool cartglaze_is_valid(const uint8_t *text, size_t text_length, const uint32_t *tree, size_t tree_length, size_t row);
 
-/* Whether its first and its last child are different rows, both leaves, that match in the same way. No child is gone into. A lone `$` is not whole, and
- * neither is `$a_$`, where the script reads the closing `$`. What is whole is valid. */
+/* Whether its first and its last child are different rows, both leaves, that match in the same way. No child is gone into. A lone `$` is not whole,
+ * and neither is `$a_$`, where the script reads the closing `$`. What is whole is valid. */
 bool cartglaze_is_whole(const uint8_t *text, size_t text_length, const uint32_t *tree, size_t tree_length, size_t row);
 
 /* Whether the row is a leaf that lies inside the text. */

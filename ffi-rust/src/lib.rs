@@ -143,7 +143,7 @@ question!(
     /// Whether the row is a formula whose first token is `$` or `\(`.
     pub is_inline, cartglaze_is_inline, bool);
 question!(
-    /// Whether the row is a formula whose first and last token match: mitex's answer. A lone `$` is both, and valid. Print by [`is_whole`].
+    /// Whether the row is a formula whose first and last token match: mitex's answer. A lone `$` is both, and valid. Print from [`is_whole`].
     pub is_valid, cartglaze_is_valid, bool);
 question!(
     /// Whether the row is a formula whose first and last child are different leaves that match. A lone `$` is not whole, and `$a_$` isn't either: its

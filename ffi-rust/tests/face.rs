@@ -134,7 +134,8 @@ fn questions() {
     assert_eq!(leaf_text(text, &display, 0).as_ptr_range(), text[..0].as_ptr_range());
 }
 
-/// Whether the formula that begins a text is valid and whole: its tokens, each a kind and a length, are read, and the root's first child is asked about.
+/// Whether the formula that begins a text is valid and whole: its tokens, each a kind and a length, are read, and the root's first child is asked
+/// about.
 fn asked(text: &[u8], kinds: &[[u32; 2]]) -> (bool, bool) {
     let mut start = 0;
     let mut tokens = Vec::new();

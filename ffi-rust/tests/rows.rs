@@ -5,8 +5,8 @@ mod numbers;
 use cartglaze::{is_display, is_inline, is_leaf, is_valid, is_whole, leaf_text, TREE_ROW};
 use numbers::Numbers;
 
-/// Two dollars, then the other delimiters, one every two bytes.
-const TEXT: &[u8] = br"$$\(\)\[\]a";
+/// Two dollars, then the other delimiters, one every two bytes; a dollar ends the text.
+const TEXT: &[u8] = br"$$\(\)\[\]a$";
 
 /// A row of the tree.
 type Row = [u32; TREE_ROW];
@@ -90,12 +90,12 @@ fn any_row(numbers: &mut Numbers) -> Row {
         0 => [0, 43, 0, 0, token],
         1 => [0, 1, 0, 0, token],
         2 | 3 => {
-            // At place 0 a `$` or `$$`, at 5 a `$` that begins in the text or right behind it, and ends outside.
+            // At place 0 a `$` or `$$`; at 5 one that begins with the text's last `$` or right behind it, and ends outside.
             let place = numbers.below(6);
             let kind = if place % 5 == 0 { 14 } else { 15 + numbers.below(2) };
             let (start, length) = match place {
                 0 => (0, 1 + numbers.below(2)),
-                5 => (10 + numbers.below(2), 2),
+                5 => (11 + numbers.below(2), 2),
                 _ => (place * 2, 2),
             };
             [1, kind, start, length, token]

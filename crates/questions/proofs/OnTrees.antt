@@ -14,7 +14,7 @@ use lib.Seq.{drop-drop, drop-append-seam, getD-drop}
 use Rattle.rules.specs.Flat.{tagLeaf, tagFinish, startRow, finishRow, withToken, rowOf}
 use Rattle.rules.specs.Builder as builder
 use Rattle.rules.specs.Limits
-use Rattle.rules.specs.Questions.{rowCount, tagAt, tagged, rangeAt, openAfter, balance, formula, firstToken, lastToken, firstFrom, lastBefore, firstLeaf, firstOf, lastLeaf, lastOf, ofLeaf, Leaf, leafAt, display, inline, matched, isDisplay, isInline, isValid, isWhole, wholeUpTo, childLeaf, lastChild, whole}
+use Rattle.rules.specs.Questions.{rowCount, tagAt, tagged, rangeAt, openAfter, balance, formula, firstToken, lastToken, firstFrom, lastBefore, firstLeaf, firstOf, lastLeaf, lastOf, ofLeaf, Leaf, leafAt, display, inline, matched, isDisplay, isInline, isValid, isWhole, wholeIn, childLeaf, lastChild, whole}
 use Rattle.rules.proofs.Questions.{balance-on, balance-here, first-next, first-end, last-step}
 use Rattle.rules.proofs.Whole.{no-first, no-last}
 use Rattle.rules.specs.SyntaxKind.{ItemFormula}
@@ -233,8 +233,8 @@ module _ (tree : List ℕ) where
   -- node, whose first row is no leaf
   whole-inside : (text : List ℕ) (row from to : ℕ) (f : Forest)
       → Stands tree (row + 1) (layouts f)
-      → wholeUpTo text tree row (some (row + 1 + sizes f)) ≡ whole text (node ItemFormula from to f)
-  unfolding wholeUpTo size sizes lastChild
+      → wholeIn text tree row (some (row + 1 + sizes f)) ≡ whole text (node ItemFormula from to f)
+  unfolding wholeIn size sizes lastChild
   whole-inside text row from to Forest.none s = rw (le-ltb (row + 1) (row + 1 + 0 - 1) (omega arith))
   whole-inside text row from to (more (leaf l) Forest.none) s =
       rw (le-ltb (row + 1) (row + 1 + (1 + 0) - 1) (omega arith), no-last text (ofLeaf l))
@@ -281,7 +281,7 @@ module _ (tree : List ℕ) (row from to : ℕ) (children : Forest) (s : Stands t
       }
 
   whole-is : (text : List ℕ) → isWhole text tree row ≡ whole text (node ItemFormula from to children)
-  whole-is text = ap (wholeUpTo text tree row) formula-is ∙ whole-inside tree text row from to children (rows .inside)
+  whole-is text = ap (wholeIn text tree row) formula-is ∙ whole-inside tree text row from to children (rows .inside)
 
 -- the answers, by the row, are those that the source and 02 have of the node
 pub record Answers (text tree : List ℕ) (row : ℕ) (t : Tree) : Type 0 where

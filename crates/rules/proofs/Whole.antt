@@ -9,7 +9,7 @@ use native.Mathlib.Omega.{arith}
 use borrow.Author.Tests.{ltb-true, eqb-true}
 use lib.Dec.{ltb, eqb}
 use Rattle.rules.specs.Flat.{tagStart, tagLeaf, tagFinish}
-use Rattle.rules.specs.Questions.{rowCount, tagAt, tagged, formula, firstFrom, lastBefore, firstToken, lastToken, Delimiter, Leaf, leafAt, isDelimiter, between, matched, isValid, wholeUpTo, isWhole}
+use Rattle.rules.specs.Questions.{rowCount, tagAt, tagged, formula, firstFrom, lastBefore, firstToken, lastToken, Delimiter, Leaf, leafAt, isDelimiter, between, matched, isValid, wholeIn, isWhole}
 use Rattle.rules.proofs.Characters.{either}
 use Rattle.rules.proofs.Questions.{first-next, last-next, descend-leaf}
 
@@ -46,8 +46,8 @@ module _ (text tree : List ℕ) (first last : ℕ) (yes : matched text (leafAt t
   last-tag = leaf-tag tree last (λ gone. never (rw (gone, no-last text) at yes))
 
 module _ (text tree : List ℕ) (row : ℕ) where
-  whole-then : (found : Option ℕ) → formula tree row ≡ found → wholeUpTo text tree row found ≡ true → isValid text tree row ≡ true
-  unfolding wholeUpTo firstToken lastToken
+  whole-then : (found : Option ℕ) → formula tree row ≡ found → wholeIn text tree row found ≡ true → isValid text tree row ≡ true
+  unfolding wholeIn firstToken lastToken
   whole-then none is e = absurd (never e)
   whole-then (some finish) is e =
       let first = row + 1 in

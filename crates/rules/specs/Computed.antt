@@ -19,5 +19,5 @@ unfolding Scope.stops Kinds.isTrivia Kinds.isTextComponent Kinds.leafKind Charac
 the-run = tt
 
 unfoldable pub the-questions : Unit {0}
-unfolding Questions.tagged Questions.rangeAt Questions.isLeaf Questions.leafRange Questions.leafText Questions.openAfter Questions.balance Questions.formula Questions.firstFrom Questions.lastBefore Questions.firstToken Questions.lastToken Questions.same Questions.isDelimiter Questions.oneOf Questions.between Questions.matched Questions.wholeUpTo
+unfolding Questions.tagged Questions.rangeAt Questions.isLeaf Questions.leafRange Questions.leafText Questions.openAfter Questions.balance Questions.formula Questions.firstFrom Questions.lastBefore Questions.firstToken Questions.lastToken Questions.same Questions.isDelimiter Questions.oneOf Questions.between Questions.matched Questions.wholeIn
 the-questions = tt

@@ -172,7 +172,7 @@ display text first = oneOf text dollars beginDisplay first
 abbrev pub inline : List ℕ → Option Leaf → Bool
 inline text first = oneOf text dollar beginInline first
 
--- "`is_valid` asks only whether these two tokens match, so a lone `$` is valid, as in the source."
+-- "`is_valid` asks only whether these two tokens match, so a lone `$` is valid, as in the source." The strict question asks it of two children
 unfoldable pub matched : List ℕ → Option Leaf → Option Leaf → Bool
 matched text first last =
     between text dollar dollar first last
@@ -192,15 +192,15 @@ isValid text tree row = matched text (leafAt tree (firstToken tree row)) (leafAt
 -- ---- the strict question
 -- "the formula's first and last child must be different leaf rows that match as opener and closer" (02, #106). A child that is a leaf is one row: the
 -- first is then the row behind the formula's start, and the last the row before its finish. So no child is gone into
-unfoldable pub wholeUpTo : List ℕ → List ℕ → ℕ → Option ℕ → Bool
-wholeUpTo text tree row none = false
-wholeUpTo text tree row (some finish) =
+unfoldable pub wholeIn : List ℕ → List ℕ → ℕ → Option ℕ → Bool
+wholeIn text tree row none = false
+wholeIn text tree row (some finish) =
     let first = row + 1 in
     let last = finish - 1 in
     ltb first last && matched text (leafAt tree (some first)) (leafAt tree (some last))
 
 abbrev pub isWhole : List ℕ → List ℕ → ℕ → Bool
-isWhole text tree row = wholeUpTo text tree row (formula tree row)
+isWhole text tree row = wholeIn text tree row (formula tree row)
 
 -- ---- of a node of a tree: its tokens as rowan has them
 abbrev pub ofLeaf : builder.Leaf → Option Leaf
