@@ -62,7 +62,7 @@ differ:
 	./oracle/beside
 	nice target/oracle/release/differ $(CASES) $(SEED)
 
-# Tables that no lexer makes, against the model: some thousand under valgrind first, then so many.
+# Tables that no lexer makes, and rows that no run gives, against the model: some thousand under valgrind first, then so many.
 HOSTILE = 1000000
 hostile:
 	./oracle/beside

@@ -10,6 +10,7 @@ mod kinds;
 mod layout;
 pub mod names;
 mod plain;
+mod questions;
 mod quiet;
 mod run;
 mod spec;
@@ -17,7 +18,8 @@ mod tokens;
 mod verdicts;
 
 pub use fault::{End, Fault};
-pub use plain::{formula_questions, plain_tree, PlainRow, Tree};
+pub use plain::{plain_tree, PlainRow, Tree};
+pub use questions::formula_questions;
 pub use quiet::with_deep_stack;
 pub use run::Run;
 pub use spec::{Class, Form, Named, Spec};

@@ -1,9 +1,7 @@
 //! The plain build of the parser: the Rust's own answer.
 
-use mitex_parser::syntax::SyntaxKind::{TokenBeginMath, TokenDollar, TokenEndMath};
-use mitex_parser::syntax::{FormulaItem, SyntaxElement, SyntaxNode};
+use mitex_parser::syntax::{SyntaxElement, SyntaxNode};
 use mitex_parser::Parser;
-use rowan::ast::AstNode;
 use rowan::{NodeOrToken, WalkEvent};
 use sheet::{FINISH, LEAF, START};
 
@@ -34,43 +32,6 @@ pub fn plain_tree(text: &str, spec: &Spec) -> Result<Tree, Fault> {
             other => Err(Fault::Parser(other.to_owned())),
         },
     }
-}
-
-/// The formulas of a tree in its order, and for each whether the Rust calls it a
-/// display formula, an inline formula, valid; and whether it is whole.
-pub fn formula_questions(text: &str, spec: &Spec) -> Vec<[bool; 4]> {
-    let green = Parser::new(text, spec.command_spec()).parse();
-    let formulas = SyntaxNode::new_root(green).descendants();
-    formulas
-        .filter_map(FormulaItem::cast)
-        .map(|item| {
-            [
-                item.is_display(),
-                item.is_inline(),
-                item.is_valid(),
-                is_whole(item.syntax()),
-            ]
-        })
-        .collect()
-}
-
-/// The strict question of document 02, which the source doesn't have, asked of rowan's node:
-/// its first and last child are different tokens that match as opener and closer.
-fn is_whole(formula: &SyntaxNode) -> bool {
-    let first = formula.first_child_or_token();
-    let last = formula.last_child_or_token();
-    let (Some(NodeOrToken::Token(first)), Some(NodeOrToken::Token(last))) = (first, last) else {
-        return false;
-    };
-    let ends = [(first.kind(), first.text()), (last.kind(), last.text())];
-    first.index() != last.index()
-        && matches!(
-            ends,
-            [(TokenDollar, "$"), (TokenDollar, "$")]
-                | [(TokenDollar, "$$"), (TokenDollar, "$$")]
-                | [(TokenBeginMath, "\\("), (TokenEndMath, "\\)")]
-                | [(TokenBeginMath, "\\["), (TokenEndMath, "\\]")]
-        )
 }
 
 fn rows(root: &SyntaxNode) -> Vec<PlainRow> {

@@ -1,4 +1,4 @@
-//! The model of document 01 agrees with the Rust on generated formulas, what was dropped
+//! The model of the papers agrees with the Rust on generated formulas, what was dropped
 //! puts the text together again, and each leaf lands in its token.
 
 use answers::{formula_questions, with_deep_stack, Fault, Run, Spec};
@@ -118,7 +118,7 @@ fn each_leaf_lands_in_its_token() {
 }
 
 #[test]
-fn questions_about_formulas_have_the_rust_s_answers() {
+fn questions_about_formulas_have_the_answers_of_the_rust_s_tree() {
     with_deep_stack(|| {
         let mut asked = 0;
         for (text, spec) in formulas_by_chance(5_000, 40) {

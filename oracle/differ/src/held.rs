@@ -7,6 +7,35 @@ use sheet::{listing, Answer, Ran, Row, Tables, START};
 /// A run over lent buffers: the port's, or in tests one that is wrong on purpose.
 pub type Runner<'r> = &'r dyn Fn(&Tables, &mut [u32], &mut [u32]) -> Ran;
 
+/// Whether a formula is display, inline, valid, whole.
+pub type Questions = [bool; 4];
+
+/// Who answers about a row of a tree over a text: the port, or in tests one that is wrong on
+/// purpose.
+pub type Asked<'a> = &'a dyn Fn(&[u8], &[u32], usize) -> Questions;
+
+/// What is held against the Rust.
+#[derive(Clone, Copy)]
+pub struct Held<'h> {
+    pub run: Runner<'h>,
+    pub asked: Asked<'h>,
+}
+
+impl Held<'static> {
+    /// The proved library.
+    pub const PORT: Self = Self {
+        run: &port::run,
+        asked: &|text, tree, at| {
+            [
+                port::is_display(text, tree, at),
+                port::is_inline(text, tree, at),
+                port::is_valid(text, tree, at),
+                port::is_whole(text, tree, at),
+            ]
+        },
+    };
+}
+
 /// At which rooms, in rows, a formula is run.
 pub enum Rooms<'d> {
     /// Every one: for small formulas, and for cutting one down.
@@ -33,9 +62,6 @@ const BEFORE: u32 = 0xdead_beef;
 /// The kind of a formula's node.
 const FORMULA: u32 = 43;
 
-/// Whether a formula is display, inline, valid, whole.
-pub type Questions = [bool; 4];
-
 /// What was the same: how many answers, and what was answered about each formula of the tree
 /// with room enough.
 #[derive(Debug, Default, PartialEq, Eq)]
@@ -44,18 +70,18 @@ pub struct Same {
     pub formulas: Vec<Questions>,
 }
 
-/// The first difference between the runner and the Rust, with both answers, or what was the
+/// The first difference between what is held and the Rust, with both answers, or what was the
 /// same.
 pub fn difference(
     run: &Run,
     text: &str,
     spec: &Spec,
     rooms: Rooms,
-    runner: Runner,
+    held: Held,
 ) -> Result<Same, String> {
     let mut same = Same::default();
     for room in rooms.of(run.writes.len()) {
-        same.formulas = answer_differs(run, text, spec, room, runner)?;
+        same.formulas = answer_differs(run, text, spec, room, held)?;
         same.answers += 1;
     }
     Ok(same)
@@ -66,11 +92,11 @@ fn answer_differs(
     text: &str,
     spec: &Spec,
     room: usize,
-    runner: Runner,
+    held: Held,
 ) -> Result<Vec<Questions>, String> {
     let mut tree = vec![BEFORE; Row::numbers_for(room)];
     let mut dropped = vec![BEFORE; 3 * run.tables.token_count()];
-    let ran = runner(&run.tables, &mut tree, &mut dropped);
+    let ran = (held.run)(&run.tables, &mut tree, &mut dropped);
     let told = Answer::of(ran, &tree, &dropped);
     let rust = run.answer(room);
     if told != rust {
@@ -84,7 +110,7 @@ fn answer_differs(
     match &told {
         Answer::Accepted { rows, .. } => {
             texts_differ(run, text, rows, &tree)?;
-            questions_differ(text, spec, rows, &tree)
+            questions_differ(text, spec, rows, &tree, held.asked)
         }
         Answer::Refused { .. } => Ok(Vec::new()),
     }
@@ -146,21 +172,14 @@ fn questions_differ(
     spec: &Spec,
     rows: &[Row],
     tree: &[u32],
+    asked: Asked,
 ) -> Result<Vec<Questions>, String> {
     let starts = |(at, row): (usize, &Row)| (row.tag == START && row.kind == FORMULA).then_some(at);
     let formulas: Vec<usize> = rows.iter().enumerate().filter_map(starts).collect();
     if formulas.is_empty() {
         return Ok(Vec::new());
     }
-    let bytes = text.as_bytes();
-    let ask = |at: usize| {
-        [
-            port::is_display(bytes, tree, at),
-            port::is_inline(bytes, tree, at),
-            port::is_valid(bytes, tree, at),
-            port::is_whole(bytes, tree, at),
-        ]
-    };
+    let ask = |at: usize| asked(text.as_bytes(), tree, at);
     let told: Vec<Questions> = formulas.into_iter().map(ask).collect();
     let rust = formula_questions(text, spec);
     match told == rust {

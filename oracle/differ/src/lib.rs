@@ -5,5 +5,5 @@ mod held;
 mod tally;
 
 pub use formulas::formulas;
-pub use held::{difference, Questions, Rooms, Runner, Same};
+pub use held::{difference, Asked, Held, Questions, Rooms, Runner, Same};
 pub use tally::Tally;

@@ -4,7 +4,7 @@ use std::process::ExitCode;
 
 use answers::with_deep_stack;
 use cases::dice::Dice;
-use differ::{formulas, Tally};
+use differ::{formulas, Held, Tally};
 
 fn main() -> ExitCode {
     let words: Vec<String> = std::env::args().skip(1).collect();
@@ -24,7 +24,7 @@ fn compare(count: usize, seed: u64) -> Tally {
     let mut formulas = formulas(count, seed);
     while tally.cases < count {
         let (text, spec) = formulas.next().expect("formulas without end");
-        tally.formula(&text, &spec, &mut dice, &port::run);
+        tally.formula(&text, &spec, &mut dice, Held::PORT);
     }
     tally
 }

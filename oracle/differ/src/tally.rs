@@ -7,7 +7,7 @@ use cases::dice::Dice;
 use cases::smallest;
 use sheet::Answer;
 
-use crate::held::{difference, Questions, Rooms, Runner};
+use crate::held::{difference, Held, Questions, Rooms};
 
 #[derive(Debug, Default)]
 pub struct Tally {
@@ -27,7 +27,7 @@ pub struct Tally {
 
 impl Tally {
     /// Compares a formula, and prints a difference with the smallest input that shows it.
-    pub fn formula(&mut self, text: &str, spec: &Spec, dice: &mut Dice, runner: Runner) {
+    pub fn formula(&mut self, text: &str, spec: &Spec, dice: &mut Dice, held: Held) {
         let run = match Run::of(text, spec) {
             Ok(run) => run,
             Err(Fault::Lexer(_)) => {
@@ -37,7 +37,7 @@ impl Tally {
             Err(fault) => panic!("{text:?}: {fault}"),
         };
         self.count(&run);
-        match difference(&run, text, spec, Rooms::Some(dice), runner) {
+        match difference(&run, text, spec, Rooms::Some(dice), held) {
             Ok(same) => {
                 self.answers += same.answers;
                 same.formulas
@@ -46,7 +46,7 @@ impl Tally {
             }
             Err(_) => {
                 self.differ += 1;
-                println!("{}", cut_down(text, spec, runner));
+                println!("{}", cut_down(text, spec, held));
             }
         }
     }
@@ -71,17 +71,17 @@ impl Tally {
 }
 
 /// The smallest formula that still differs, with both answers.
-fn cut_down(text: &str, spec: &Spec, runner: Runner) -> String {
-    let differs = |text: &str, spec: &Spec| says(text, spec, runner).is_some();
+fn cut_down(text: &str, spec: &Spec, held: Held) -> String {
+    let differs = |text: &str, spec: &Spec| says(text, spec, held).is_some();
     let (text, spec) = smallest(text, spec, differs);
-    let said = says(&text, &spec, runner);
+    let said = says(&text, &spec, held);
     let said = said.unwrap_or_else(|| "only at its full length".to_owned());
     format!("differs: {text:?} with {spec}\n{said}")
 }
 
-fn says(text: &str, spec: &Spec, runner: Runner) -> Option<String> {
+fn says(text: &str, spec: &Spec, held: Held) -> Option<String> {
     let run = Run::of(text, spec).ok()?;
-    difference(&run, text, spec, Rooms::All, runner).err()
+    difference(&run, text, spec, Rooms::All, held).err()
 }
 
 impl fmt::Display for Tally {

@@ -4,23 +4,27 @@
 use answers::{Run, Spec};
 use cases::dice::Dice;
 use cases::smallest;
-use differ::{difference, formulas, Rooms, Runner};
+use differ::{difference, formulas, Held, Rooms, Runner};
 use model::Slip;
 use sheet::{Ran, Row, Tables};
 
-/// How a runner differs on a formula.
-fn says(text: &str, spec: &Spec, runner: Runner) -> Option<String> {
+/// How what is held differs on a formula.
+fn says(text: &str, spec: &Spec, held: Held) -> Option<String> {
     let run = Run::of(text, spec).ok()?;
-    difference(&run, text, spec, Rooms::Some(&mut Dice::new(0)), runner).err()
+    difference(&run, text, spec, Rooms::Some(&mut Dice::new(0)), held).err()
 }
 
 /// The first of some formulas on which a runner differs, cut down.
-fn first(runner: Runner) -> Option<(String, String)> {
-    let differs = |text: &str, spec: &Spec| says(text, spec, runner).is_some();
+fn first(run: Runner) -> Option<(String, String)> {
+    first_held(Held { run, ..Held::PORT })
+}
+
+fn first_held(held: Held) -> Option<(String, String)> {
+    let differs = |text: &str, spec: &Spec| says(text, spec, held).is_some();
     let mut formulas = formulas(40_000, 1).take(40_000);
     let (text, spec) = formulas.find(|(text, spec)| differs(text, spec))?;
     let (text, spec) = smallest(&text, &spec, differs);
-    let said = says(&text, &spec, runner)?;
+    let said = says(&text, &spec, held)?;
     Some((text, said))
 }
 
@@ -93,6 +97,24 @@ fn what_is_left_in_the_buffers_counts() {
 }
 
 #[test]
+fn a_strict_question_that_is_as_lax_as_the_other_is_found() {
+    let lax = |text: &[u8], tree: &[u32], at: usize| {
+        let [display, inline, valid, _] = (Held::PORT.asked)(text, tree, at);
+        [display, inline, valid, valid]
+    };
+    let (text, said) = first_held(Held {
+        asked: &lax,
+        ..Held::PORT
+    })
+    .expect("a difference");
+    assert_eq!(text, "$");
+    assert!(
+        said.contains("whole: [[false, true, true, false]]"),
+        "{said}"
+    );
+}
+
+#[test]
 fn the_same_seed_gives_the_same_formulas() {
     let some = |seed| -> Vec<(String, Spec)> { formulas(1_000, seed).take(1_000).collect() };
     assert_eq!(some(7), some(7));
@@ -105,7 +127,10 @@ fn the_same_seed_gives_the_same_formulas() {
         "1",
         &Spec::default(),
         Rooms::Some(&mut dice),
-        &model,
+        Held {
+            run: &model,
+            ..Held::PORT
+        },
     );
     assert_eq!(
         same.map(|same| same.answers),

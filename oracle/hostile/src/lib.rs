@@ -1,6 +1,6 @@
-//! Tables that no lexer makes, through the proved library and the model of document 01:
-//! the answers, and every element of both lent buffers before and after. Rows that no run
-//! gives, for the questions.
+//! Tables that no lexer makes, through the proved library and the model of the papers: the
+//! answers, and every element of both lent buffers before and after. Rows that no run gives,
+//! for the questions.
 
 mod buffers;
 mod case;

@@ -45,7 +45,7 @@ fn ask(count: usize, seed: u64) -> usize {
     }
     let [display, inline, valid, whole, leaf] = yes;
     println!(
-        "rows: {display} display, {inline} inline, {valid} valid, {whole} whole, {leaf} leaves"
+        "rows of {count} trees: {display} display, {inline} inline, {valid} valid, {whole} whole, {leaf} leaves"
     );
     differ
 }

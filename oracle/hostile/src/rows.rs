@@ -23,19 +23,19 @@ const DELIMITERS: [[u32; 3]; 6] = [
 const FORMULA: u32 = 43;
 const ITEM_TEXT: u32 = 31;
 
-/// Some rows over a text.
+/// Some rows over a text. Neither has room behind its end, so that a read past it can be seen.
 #[derive(Debug, Clone)]
 pub struct Rows {
-    pub text: Vec<u8>,
-    pub tree: Vec<u32>,
+    pub text: Box<[u8]>,
+    pub tree: Box<[u32]>,
 }
 
 impl Rows {
     pub fn by_chance(dice: &mut Dice) -> Self {
         // Of a shorter text some delimiters lie outside.
-        let text = match dice.once_in(4) {
-            true => TEXT[..dice.below(TEXT.len())].to_vec(),
-            false => TEXT.to_vec(),
+        let length = match dice.once_in(3) {
+            true => dice.below(TEXT.len()),
+            false => TEXT.len(),
         };
         let mut tree = Vec::new();
         for _ in 0..dice.below(3) {
@@ -53,7 +53,10 @@ impl Rows {
         // What is left over behind the last whole row is no row.
         let over = dice.below(Row::WIDTH);
         tree.extend(&[START, FORMULA, 0, 0, 0][..over]);
-        Self { text, tree }
+        Self {
+            text: TEXT[..length].into(),
+            tree: tree.into(),
+        }
     }
 
     /// The answers about each row and some that are not there, or how they differ from the

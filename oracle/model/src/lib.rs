@@ -1,4 +1,5 @@
-//! Document 01 as a plain program, with the fifth number that document 02 adds to a row.
+//! Document 01 as a plain program, with the fifth number that document 02 adds to a row and
+//! its strict question.
 //!
 //! It shares no code with the parser of mitex, so that holding the two against each other
 //! tests how the document is read. Where the document itself says that a routine is as the

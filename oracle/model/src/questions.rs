@@ -26,15 +26,30 @@ pub fn is_valid(text: &[u8], rows: &[Row], at: usize) -> bool {
 }
 
 /// Whether the formula's first and last child are different leaf rows that match as opener
-/// and closer. What stands right behind its start begins its first child, and what stands
-/// right before its finish ends its last.
+/// and closer.
 pub fn is_whole(text: &[u8], rows: &[Row], at: usize) -> bool {
-    let Some([first, .., last]) = inside(rows, at) else {
+    let children = inside(rows, at).map_or(Vec::new(), children);
+    let [[first], .., [last]] = children[..] else {
         return false;
     };
     first.tag == LEAF
         && last.tag == LEAF
         && matching(leaf(text, Some(first)), leaf(text, Some(last)))
+}
+
+/// The rows of each child, of rows that balance: it ends where no more nodes are open than
+/// before it.
+fn children(rows: &[Row]) -> Vec<&[Row]> {
+    let mut open = 0;
+    let ends = |row: &Row| {
+        match row.tag {
+            START => open += 1,
+            FINISH => open -= 1,
+            _ => {}
+        }
+        open == 0
+    };
+    rows.split_inclusive(ends).collect()
 }
 
 /// A token's kind and text.
