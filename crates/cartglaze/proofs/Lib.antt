@@ -2,4 +2,5 @@
 pub mod Ways
 pub mod Only
 pub mod NothingLost
+pub mod Formulas
 pub mod Room

@@ -1,5 +1,6 @@
 -- What the proofs of several functions use, and what other crates cite.
 pub mod Formulas
+pub mod Nodes
 pub mod OnTrees
 pub mod Only
 pub mod Tagged

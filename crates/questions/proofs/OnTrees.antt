@@ -45,10 +45,10 @@ module _ {tree : List ℕ} {row tag kind from size token : ℕ} (s : Stands tree
   there : row < rowCount tree
   there = omega (arith, ap length (s .is), length-drop (row * Limits.treeWidth) tree)
 
-  number : (column : ℕ) → cell Limits.treeWidth tree row column ≡ getD (tag ∷ kind ∷ from ∷ size ∷ token ∷ s .rest) column 0
+  pub number : (column : ℕ) → cell Limits.treeWidth tree row column ≡ getD (tag ∷ kind ∷ from ∷ size ∷ token ∷ s .rest) column 0
   number column = sym (getD-drop (row * Limits.treeWidth) tree column 0) ∙ ap (λ (l : List ℕ). getD l column 0) (s .is)
 
-  tag-there : tag ≡ tagAt tree row
+  pub tag-there : tag ≡ tagAt tree row
   tag-there = sym (number 0)
 
 -- ---- how many rows a tree takes
@@ -89,7 +89,7 @@ pub record Node (tree : List ℕ) (at kind from to : ℕ) (children : Forest) : 
   pub inside : Stands tree (at + 1) (layouts children)
   pub finish : Stands tree (at + 1 + sizes children) (withToken to (finishRow kind))
 
-node-rows : {tree : List ℕ} {at : ℕ} (kind from to : ℕ) (children : Forest)
+pub node-rows : {tree : List ℕ} {at : ℕ} (kind from to : ℕ) (children : Forest)
     → Stands tree at (layout (node kind from to children))
     → Node tree at kind from to children
 unfolding layout
@@ -108,7 +108,7 @@ pub record Split (tree : List ℕ) (at : ℕ) (child : Tree) (rest : Forest) : T
   pub first : Stands tree at (layout child)
   pub others : Stands tree (at + size child) (layouts rest)
 
-split : {tree : List ℕ} {at : ℕ} (child : Tree) (rest : Forest) → Stands tree at (layouts (more child rest)) → Split tree at child rest
+pub split : {tree : List ℕ} {at : ℕ} (child : Tree) (rest : Forest) → Stands tree at (layouts (more child rest)) → Split tree at child rest
 unfolding layouts
 split child rest s =
     record {
@@ -290,15 +290,11 @@ pub record Answers (text tree : List ℕ) (row : ℕ) (t : Tree) : Type 0 where
   pub valid : isValid text tree row ≡ matched text (firstLeaf t) (lastLeaf t)
   pub whole : isWhole text tree row ≡ whole text t
 
--- in rows that hold the node's, whatever stands before and behind
-pub on-trees : (text before after : List ℕ) (row from to : ℕ) (children : Forest)
-    → length before ≡ row * Limits.treeWidth
-    → Answers text (before ++ (layout (node ItemFormula from to children) ++ after)) row (node ItemFormula from to children)
-on-trees text before after row from to children long =
-    let rows = layout (node ItemFormula from to children) in
-    let tree = before ++ (rows ++ after) in
-    let stands : Stands tree row rows =
-    record { rest = after; is = ap (λ (k : ℕ). drop k tree) (sym long) ∙ drop-append-seam before (rows ++ after) } in
+-- where the node's rows stand
+pub answers : (text tree : List ℕ) (row from to : ℕ) (children : Forest)
+    → Stands tree row (layout (node ItemFormula from to children))
+    → Answers text tree row (node ItemFormula from to children)
+answers text tree row from to children stands =
     let found = tokens tree row from to children stands in
     record {
       display = ap (display text) (found .first);
@@ -306,3 +302,13 @@ on-trees text before after row from to children long =
       valid = ap₂ (matched text) (found .first) (found .last);
       whole = whole-is tree row from to children stands text;
     }
+
+-- in rows that hold the node's, whatever stands before and behind
+pub on-trees : (text before after : List ℕ) (row from to : ℕ) (children : Forest)
+    → length before ≡ row * Limits.treeWidth
+    → Answers text (before ++ (layout (node ItemFormula from to children) ++ after)) row (node ItemFormula from to children)
+on-trees text before after row from to children long =
+    let rows = layout (node ItemFormula from to children) in
+    let tree = before ++ (rows ++ after) in
+    let is = ap (λ (k : ℕ). drop k tree) (sym long) ∙ drop-append-seam before (rows ++ after) in
+    answers text tree row from to children (record { rest = after; is = is })
