@@ -1,5 +1,5 @@
-/* Document 01's whole case, `\frac 1 2`, as tables through the C face: the listing that `treelist` prints for it, then each leaf's token and text, two
- * formulas' questions, and refusals. */
+/* Document 01's whole case, `\frac 1 2`, as tables through the C face: the listing that `treelist` prints for it, then each leaf's token and text,
+ * two formulas' questions, and refusals. */
 #include <inttypes.h>
 #include <stdio.h>
 #include <string.h>

@@ -67,8 +67,8 @@ bool cartglaze_run(const uint8_t *text, size_t text_length,
 
 /* Questions about row `row` of tree rows, for any numbers in their place and any row. None looks at a row's last number.
  *
- * The first four say no unless the row starts a formula (kind 43) that has its matching finish, whatever kind that names, and the leaves that they ask
- * about lie inside the text. The first token is the first child where that is a leaf, else the first child's own first token; the last alike. */
+ * The first four say no unless the row starts a formula (kind 43) that has its matching finish, whatever kind that names, and the leaves that they
+ * ask about lie inside the text. The first token is the first child where that is a leaf, else the first child's own first token; the last alike. */
 
 /* Whether its first token is `$$` or `\[`. */
 bool cartglaze_is_display(const uint8_t *text, size_t text_length, const uint32_t *tree, size_t tree_length, size_t row);

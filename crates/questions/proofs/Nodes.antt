@@ -1,6 +1,6 @@
 -- In rows that a tree is laid out in, a row that starts a node is the first row of one of the tree's nodes. By induction over the tree: the row is
 -- the node's own, or it lies in a child's rows; a leaf's row and a finish have other tags. Assumes nothing.
-use Prim.Native.Nat.{ℕ, zero, suc, _+_, _-_, _≤_, _<_}
+use Prim.Native.Nat.{ℕ, zero, suc, _+_, _-_, _<_}
 use mathlib.Core.Bool.{cond}
 use mathlib.Core.List.{List}
 use mathlib.Core.Option.{Option, none, some}

@@ -70,7 +70,7 @@ some-rows (node kind from to children) = omega arith
 mutual
   unfolding layout layouts size sizes
 
-  length-layout : (t : Tree) → length (layout t) ≡ size t * Limits.treeWidth
+  pub length-layout : (t : Tree) → length (layout t) ≡ size t * Limits.treeWidth
   length-layout (leaf l) = refl
   length-layout (node kind from to children) =
       let inside = length-layouts children in

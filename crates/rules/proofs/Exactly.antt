@@ -116,8 +116,9 @@ module _ (t : Tables) (tree buffer : List ℕ) (rows count : ℕ) where
       let exact = exactly (length tree) (sourceOf t) p e in
       let whole = alike.accepted (alike.same-run (length tree) (sourceOf t)) e .3 in
       let same = counts is in
-      let size : rows * Limits.treeWidth ≡ length (built .tree .tree) = rw (← same .0) (whole .size) in
-      let laid = begins (built .tree .tree) tree (rows * Limits.treeWidth) size ∙ exact .laid in
+      let written : rows * Limits.treeWidth ≡ length (built .tree .tree) = rw (← same .0) (whole .size) in
+      let laid = begins (built .tree .tree) tree (rows * Limits.treeWidth) written ∙ exact .laid in
+      let size = written ∙ ap (λ (l : List ℕ). length l) (exact .laid) in
       let reasoned = dropped-rows (sourceOf t) (exact .tree) 0 in
       let long = whole-rows (sourceOf t) (reasoned .rows) ∙ ap (λ (l : List ℕ). length l) (sym (exact .only)) in
       let counted : reasoned .count ≡ count = sym (whole-count (reasoned .count) (length (built .dropped)) long) ∙ same .1 in
@@ -127,7 +128,8 @@ module _ (t : Tables) (tree buffer : List ℕ) (rows count : ℕ) where
         tree = exact .tree;
         of = exact .of;
         laid = laid;
-        base = fours (exact .tree) rows (over (built .tree .tree) tree) (size ∙ ap (λ (l : List ℕ). length l) (exact .laid)) laid;
+        size = size;
+        base = fours (exact .tree) rows (over (built .tree .tree) tree) size laid;
         only = notes;
         reasons = rw (notes, ← counted) (reasoned .rows);
       }

@@ -8,7 +8,7 @@ use mathlib.Core.Bool.{Bool, true, not, cond, _&&_, _||_}
 use mathlib.Core.List.{List, [], _∷_, _++_, map}
 use mathlib.Core.Option.{Option, none, some}
 use lib.Dec.{eqb}
-use lib.ListN.{take}
+use lib.ListN.{length, take}
 use Rattle.rules.specs.Checks.{Tables, sourceOf}
 use Rattle.rules.specs.Flat.{four, droppedRow, reasonTrivia, reasonOpener, reasonCloser}
 use Rattle.rules.specs.Items.{classCommand, ofClass}
@@ -135,6 +135,8 @@ pub record RanExactly (t : Tables) (room rows count : ℕ) (r : Ran) : Type 0 wh
   pub tree : Tree
   pub of : TreeOf room (sourceOf t) tree
   pub laid : take (rows * Limits.treeWidth) (r .tree) ≡ layout tree
+  -- "row counts .. are the tree's own"
+  pub size : rows * Limits.treeWidth ≡ length (layout tree)
   -- "Demands 2 and 3 read the first four numbers as before."
   pub base : map four (treeRows rows (r .tree)) ≡ baseRows tree
   pub only : take (count * Limits.droppedWidth) (r .dropped) ≡ dropped (sourceOf t) tree

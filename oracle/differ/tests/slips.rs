@@ -1,5 +1,5 @@
-//! The comparison tells each of the slips that look right from the Rust, and each slip in a
-//! row's fifth number.
+//! The comparison tells each of the slips that look right from the Rust, each slip in a row's
+//! fifth number, and wrong answers to the questions.
 
 use answers::{Run, Spec};
 use cases::dice::Dice;

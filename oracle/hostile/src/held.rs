@@ -6,9 +6,7 @@ use sheet::{Ran, Refusal, Row, Tables, START};
 use crate::buffers::{Around, Lent};
 use crate::case::Case;
 use crate::questions::{answers_differ, by_port};
-
-/// The kind of a formula's node.
-const FORMULA: u32 = 43;
+use crate::rows::FORMULA;
 
 /// A run over lent buffers: the port's, or in tests one that is wrong on purpose.
 pub type Runner<'r> = &'r dyn Fn(&Tables, &mut [u32], &mut [u32]) -> Ran;

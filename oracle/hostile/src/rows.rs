@@ -20,7 +20,7 @@ const DELIMITERS: [[u32; 3]; 6] = [
 ];
 
 /// The kinds of a formula's node and of a text's.
-const FORMULA: u32 = 43;
+pub const FORMULA: u32 = 43;
 const ITEM_TEXT: u32 = 31;
 
 /// Some rows over a text. Neither has room behind its end, so that a read past it can be seen.

@@ -1,4 +1,4 @@
-//! Runs that are wrong on purpose are told from the model's.
+//! Runs, and answers to the questions, that are wrong on purpose are told from the model's.
 
 use cases::dice::Dice;
 use hostile::{
