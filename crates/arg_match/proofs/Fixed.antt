@@ -2,18 +2,15 @@
 -- Assumes nothing.
 use mathlib.Core.Path.{_≡_, refl, ap}
 use Rattle.rules.specs.Matcher as rules
-use Rattle.arg_match.specs.Answers.{matchedOf, matcherOf, triedOf}
+use Rattle.arg_match.specs.Answers.{matchedOf, matcherOf}
 use Rattle.arg_match.specs.declared.ArgMatcher.{ArgMatcher}
 use Rattle.arg_match.specs.declared.ArgMatcher.the-variants.{None, AtMostTerm, Greedy, Glob}
-use Rattle.arg_match.specs.declared.Tried.{Tried}
-use Rattle.arg_match.specs.declared.Tried.the-variants as tried
 use Rattle.arg_match.specs.declared.Matched.{Matched}
 use Rattle.arg_match.specs.declared.Matched.the-variants as matched
 use Rattle.syntax.proofs.Only.{Only, equal, stands}
 use Rattle.arg_match.proofs.ArgMatcher.is_greedy.Reads as is-greedy
-use Rattle.arg_match.proofs.ArgMatcher.match_as_term.Reads as match-as-term
+use Rattle.arg_match.proofs.ArgMatcher.match_next.Reads as match-next
 use Rattle.arg_match.proofs.ArgMatcher.start_match.Reads as start-match
-use Rattle.arg_match.proofs.ArgMatcher.try_match.Reads as try-match
 
 abbrev pub matcher : rules.Matcher → ArgMatcher
 matcher rules.nothing = None
@@ -27,21 +24,13 @@ from-matcher (AtMostTerm max counter) = refl
 from-matcher Greedy = refl
 from-matcher (Glob state) = refl
 
-abbrev tried-of : rules.Tried → Tried
-tried-of rules.refused = tried.Refused
-tried-of (rules.accepted m) = tried.Accepted (matcher m)
-
-from-tried : (t : Tried) → tried-of (triedOf t) ≡ t
-from-tried tried.Refused = refl
-from-tried (tried.Accepted m) = ap tried.Accepted (from-matcher m)
-
 abbrev matched-of : rules.Matched → Matched
-matched-of rules.none = matched.Refused
+matched-of rules.notAccepted = matched.NotAccepted
 matched-of (rules.whole m) = matched.Whole (matcher m)
 matched-of (rules.bare m) = matched.Bare (matcher m)
 
 from-matched : (t : Matched) → matched-of (matchedOf t) ≡ t
-from-matched matched.Refused = refl
+from-matched matched.NotAccepted = refl
 from-matched (matched.Whole m) = ap matched.Whole (from-matcher m)
 from-matched (matched.Bare m) = ap matched.Bare (from-matcher m)
 
@@ -52,8 +41,5 @@ only-start-match = stands matcherOf matcher from-matcher
 pub only-is-greedy : Only is-greedy.Post
 only-is-greedy = equal
 
-pub only-try-match : Only try-match.Post
-only-try-match = stands triedOf tried-of from-tried
-
-pub only-match-as-term : Only match-as-term.Post
-only-match-as-term = stands matchedOf matched-of from-matched
+pub only-match-next : Only match-next.Post
+only-match-next = stands matchedOf matched-of from-matched

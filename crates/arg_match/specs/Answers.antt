@@ -4,8 +4,6 @@ use Rattle.arg_match.specs.declared.Argument.{Argument}
 use Rattle.arg_match.specs.declared.Argument.the-variants as argument
 use Rattle.arg_match.specs.declared.ArgMatcher.{ArgMatcher}
 use Rattle.arg_match.specs.declared.ArgMatcher.the-variants as matcher
-use Rattle.arg_match.specs.declared.Tried.{Tried}
-use Rattle.arg_match.specs.declared.Tried.the-variants as tried
 use Rattle.arg_match.specs.declared.Matched.{Matched}
 use Rattle.arg_match.specs.declared.Matched.the-variants as matched
 
@@ -20,11 +18,7 @@ matcherOf (matcher.AtMostTerm max counter) = rules.atMost max counter
 matcherOf matcher.Greedy = rules.greedy
 matcherOf (matcher.Glob state) = rules.glob state
 
-abbrev pub triedOf : Tried → rules.Tried
-triedOf tried.Refused = rules.refused
-triedOf (tried.Accepted next) = rules.accepted (matcherOf next)
-
 abbrev pub matchedOf : Matched → rules.Matched
-matchedOf matched.Refused = rules.none
+matchedOf matched.NotAccepted = rules.notAccepted
 matchedOf (matched.Whole next) = rules.whole (matcherOf next)
 matchedOf (matched.Bare next) = rules.bare (matcherOf next)

@@ -1,7 +1,7 @@
 // The argument matcher (arg_match.rs): what a shape accepts as the next argument. The glob string is a state's number.
 ghost use mathlib.Core.Path.{_≡_};
-ghost use Rattle.rules.specs.Matcher.{asGroup, asTerm, column, isGreedy, isTerm, matchAsTerm, nextState, startAtMost, startMatch, tryMatch};
-ghost use Rattle.arg_match.specs.Answers.{argumentOf, matchedOf, matcherOf, triedOf};
+ghost use Rattle.rules.specs.Matcher.{asTerm, column, isGreedy, matchNext, nextState, startAtMost, startMatch};
+ghost use Rattle.arg_match.specs.Answers.{argumentOf, matchedOf, matcherOf};
 use syntax::Form;
 use syntax::Limits;
 
@@ -24,15 +24,10 @@ pub enum ArgMatcher {
     Glob { state: u32 },
 }
 
-// The answer to a try: refused, or accepted with the matcher for what comes next.
-pub enum Tried {
-    Refused,
-    Accepted(ArgMatcher),
-}
-
-// The answer at an opening brace: refused, or accepted as a whole group or as the bare brace.
+// The answer about what comes next: not accepted, accepted as a whole item, or accepted as a bare token, each of the two with the matcher for what
+// comes behind it.
 pub enum Matched {
-    Refused,
+    NotAccepted,
     Whole(ArgMatcher),
     Bare(ArgMatcher),
 }
@@ -49,40 +44,14 @@ impl Argument {
         }
     }
 
-    // Whether it is a term, and no opening brace.
-    fn is_term(self) -> bool
-        ensures { λ r. ⌜ r ≡ isTerm (argumentOf self) ⌝ }
+    // Accepted where terms are: a term is read whole, an opening brace counts as one and is eaten alone.
+    fn as_term(self, next: ArgMatcher) -> Matched
+        ensures { λ r. ⌜ matchedOf r ≡ asTerm (argumentOf self) (matcherOf next) ⌝ }
     {
         match self {
-            Self::Term => true,
-            Self::Bracket => false,
-            Self::Paren => false,
-        }
-    }
-}
-
-impl Tried {
-    // Accepted is a whole group.
-    fn as_group(self) -> Matched
-        ensures { λ r. ⌜ matchedOf r ≡ asGroup (triedOf self) ⌝ }
-    {
-        match self {
-            Self::Refused => Matched::Refused,
-            Self::Accepted(next) => Matched::Whole(next),
-        }
-    }
-
-    // Accepted is a term: a brace counts as one alone.
-    fn as_term(self, argument: Argument) -> Matched
-        ensures { λ r. ⌜ matchedOf r ≡ asTerm (argumentOf argument) (triedOf self) ⌝ }
-    {
-        match self {
-            Self::Refused => Matched::Refused,
-            Self::Accepted(next) => if argument.is_term() {
-                Matched::Whole(next)
-            } else {
-                Matched::Bare(next)
-            },
+            Self::Term => Matched::Whole(next),
+            Self::Bracket => Matched::Bare(next),
+            Self::Paren => Matched::Bare(next),
         }
     }
 }
@@ -137,42 +106,29 @@ impl ArgMatcher {
         }
     }
 
-    // Whether an argument is accepted.
-    pub fn try_match(self, states: &[u32], argument: Argument) -> Tried
-        ensures { λ r. ⌜ triedOf r ≡ tryMatch (now (states .entry)) (matcherOf self) (argumentOf argument) ⌝ }
+    // Whether what comes next is accepted, as a whole item or as a bare token, and what is accepted behind it.
+    pub fn match_next(self, states: &[u32], argument: Argument) -> Matched
+        ensures { λ r. ⌜ matchedOf r ≡ matchNext (now (states .entry)) (matcherOf self) (argumentOf argument) ⌝ }
     {
         match self {
-            Self::None => Tried::Refused,
-            Self::AtMostTerm { max, counter } => if argument.is_term() && counter < max {
-                Tried::Accepted(Self::AtMostTerm {
+            Self::None => Matched::NotAccepted,
+            Self::AtMostTerm { max, counter } => if counter < max {
+                argument.as_term(Self::AtMostTerm {
                     max,
                     counter: counter + 1,
                 })
             } else {
-                Tried::Refused
+                Matched::NotAccepted
             },
-            Self::Greedy => Tried::Accepted(self),
+            Self::Greedy => argument.as_term(self),
             Self::Glob { state } => {
                 let next = next_state(states, state, argument);
                 if next == 0 {
-                    Tried::Refused
+                    Matched::NotAccepted
                 } else {
-                    Tried::Accepted(Self::Glob { state: next })
+                    Matched::Whole(Self::Glob { state: next })
                 }
             }
-        }
-    }
-
-    // Whether what an opening brace begins is accepted, and if so whether the whole group or the bare brace.
-    pub fn match_as_term(self, states: &[u32], argument: Argument) -> Matched
-        ensures { λ r. ⌜ matchedOf r ≡ matchAsTerm (now (states .entry)) (matcherOf self) (argumentOf argument) ⌝ }
-    {
-        match self {
-            Self::None => Matched::Refused,
-            Self::AtMostTerm { max: _, counter: _ } => self.try_match(states, Argument::Term)
-                .as_term(argument),
-            Self::Greedy => Tried::Accepted(self).as_term(argument),
-            Self::Glob { state: _ } => self.try_match(states, argument).as_group(),
         }
     }
 }

@@ -1,14 +1,13 @@
 // What the next argument of a command or a \begin is, and where greedy arguments stop.
 ghost use mathlib.Core.Path.{_≡_};
-ghost use Rattle.rules.specs.Items.{choose, greedyStops, ifMatched, ifTried, isEnvironment};
+ghost use Rattle.rules.specs.Items.{choose, greedyStops, ifMatched, isEnvironment};
 ghost use Rattle.rules.specs.Token.{Word as wordKind};
-ghost use Rattle.arg_match.specs.Answers.{matchedOf, matcherOf, triedOf};
+ghost use Rattle.arg_match.specs.Answers.{matchedOf, matcherOf};
 ghost use Rattle.syntax.specs.ParseScope.{scopeOf};
 ghost use Rattle.items.specs.Items.{choiceFor, pieceFor};
 use arg_match::ArgMatcher;
 use arg_match::Argument;
 use arg_match::Matched;
-use arg_match::Tried;
 use syntax::ParseScope;
 use syntax::Token;
 
@@ -58,22 +57,14 @@ pub fn greedy_stops(scope: ParseScope, kind: u32) -> bool
     scope.stop_by_scope(kind)
 }
 
-fn if_tried(piece: Piece, tried: Tried) -> Choice
-    ensures { λ r. ⌜ choiceFor r ≡ ifTried (pieceFor piece) (triedOf tried) ⌝ }
-{
-    match tried {
-        Tried::Refused => Choice::Ends,
-        Tried::Accepted(matcher) => Choice::Takes(piece, matcher),
-    }
-}
-
-fn if_matched(scope: ParseScope, matched: Matched) -> Choice
-    ensures { λ r. ⌜ choiceFor r ≡ ifMatched (scopeOf scope) (matchedOf matched) ⌝ }
+// By the matcher's answer: the arguments end, the piece is taken whole, or its opening brace alone.
+fn if_matched(piece: Piece, matched: Matched) -> Choice
+    ensures { λ r. ⌜ choiceFor r ≡ ifMatched (pieceFor piece) (matchedOf matched) ⌝ }
 {
     match matched {
-        Matched::Refused => Choice::Ends,
-        Matched::Whole(matcher) => Choice::Takes(Piece::Within(scope), matcher),
-        Matched::Bare(matcher) => Choice::Takes(Piece::Brace, matcher),
+        Matched::NotAccepted => Choice::Ends,
+        Matched::Whole(next) => Choice::Takes(piece, next),
+        Matched::Bare(next) => Choice::Takes(Piece::Brace, next),
     }
 }
 
@@ -89,22 +80,22 @@ pub fn choose(states: &[u32], scope: ParseScope, matcher: ArgMatcher, kind: u32)
         Token::AMPERSAND => Choice::Ends,
         Token::CARET | Token::UNDERSCORE => Choice::Ends,
         Token::LEFT_CURLY => if_matched(
-            ParseScope::CurlyItem,
-            matcher.match_as_term(states, Argument::Term),
+            Piece::Within(ParseScope::CurlyItem),
+            matcher.match_next(states, Argument::Term),
         ),
         Token::LEFT_BRACKET => if_matched(
-            ParseScope::BracketItem,
-            matcher.match_as_term(states, Argument::Bracket),
+            Piece::Within(ParseScope::BracketItem),
+            matcher.match_next(states, Argument::Bracket),
         ),
         Token::LEFT_PAREN => if_matched(
-            ParseScope::ParenItem,
-            matcher.match_as_term(states, Argument::Paren),
+            Piece::Within(ParseScope::ParenItem),
+            matcher.match_next(states, Argument::Paren),
         ),
         _ => {
             if scope.stop_by_scope(kind) {
                 return Choice::Ends;
             }
-            if_tried(Piece::Item, matcher.try_match(states, Argument::Term))
+            if_matched(Piece::Item, matcher.match_next(states, Argument::Term))
         }
     }
 }

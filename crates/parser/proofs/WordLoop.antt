@@ -10,9 +10,8 @@ use Rattle.rules.specs.Characters.{charLength}
 use Rattle.rules.specs.Checks.{Tables, sourceOf}
 use Rattle.rules.specs.Cursor.{Cursor, peekText, restLength}
 use Rattle.rules.specs.Flat.{flat}
-use Rattle.rules.specs.Items.{character, ifTried}
-use Rattle.rules.specs.Matcher.{Matcher, Tried, accepted, term, tryMatch}
-use Rattle.rules.specs.Matcher as matcher
+use Rattle.rules.specs.Items.{character, ifMatched}
+use Rattle.rules.specs.Matcher.{Matcher, Matched, notAccepted, whole, term, matchNext}
 use Rattle.rules.specs.Reading as spec
 use Rattle.rules.specs.Routines.{argumentNode, singleChar}
 use Rattle.rules.specs.Tables.{kindAt}
@@ -73,15 +72,15 @@ module _ (t : Tables) where
         long = rw (here .is) (far .walk .ready .steady .fine .word (here .there) (here .kind) .some)
 
     module _ {from q : Parser} {m : Matcher} {word : List ℕ} {v : Buffers} (k : Taking from q m word v) (some-left : 0 < length word) where
-      chosen : {tried : Tried} → tried ≡ tryMatch (t .states) m term
-          → (n d : ℕ) → spec.choiceAt (flat n) (sourceOf t) (innerAt t n d) m (posOf q v) ≡ ifTried character tried
+      chosen : {matched : Matched} → matched ≡ matchNext (t .states) m term
+          → (n d : ℕ) → spec.choiceAt (flat n) (sourceOf t) (innerAt t n d) m (posOf q v) ≡ ifMatched character matched
       chosen e =
           let here = k .before some-left in
           let peeked = peek-some (t .tokens) (cursorOf (q .lexer)) (here .there) ∙ ap some (here .kind) in
-          by-kind t p first b (k .far) peeked (choose-word (t .states) (scopeAt (q .list .scope)) m ∙ ap (ifTried character) (sym e))
+          by-kind t p first b (k .far) peeked (choose-word (t .states) (scopeAt (q .list .scope)) m ∙ ap (ifMatched character) (sym e))
 
       -- a refused character ends both loops
-      pub taking-ends : matcher.refused ≡ tryMatch (t .states) m term
+      pub taking-ends : notAccepted ≡ matchNext (t .states) m term
           → Runs t 0 (λ n d. allArguments t first n (innerAt t n d) (posOf p b)) p b (Went q) v
       taking-ends e = arguments-end t p first b (k .far) (chosen e)
 
@@ -89,7 +88,7 @@ module _ (t : Tables) where
       pub taking-known : Known (Sees word q) q v
       taking-known = record { t = t; seen = (refl, k .before some-left .is); ready = k .far .walk .ready }
 
-      module _ {next : Matcher} (e : accepted next ≡ tryMatch (t .states) m term) {r : Step} {x : Buffers} (ran : Routine (Sees word q) q v r x) where
+      module _ {next : Matcher} (e : whole next ≡ matchNext (t .states) m term) {r : Step} {x : Buffers} (ran : Routine (Sees word q) q v r x) where
         read : Runs t 1 (λ n d. spec.argument (flat n) (sourceOf t) (innerAt t n d) character (posOf q v)) q v r x
         read = as-argument (refl, k .before some-left .is) (k .far .walk .ready) ran
 

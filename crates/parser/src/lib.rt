@@ -15,7 +15,7 @@ ghost use Rattle.syntax.specs.ParseScope.{scopeOf};
 ghost use Rattle.parser.specs.Member.{given, lent, Opened, Stayed, Next, NextIf, gainOf, itemsOf, insideOf, allArguments};
 use arg_match::ArgMatcher;
 use arg_match::Argument;
-use arg_match::Tried;
+use arg_match::Matched;
 use clauses::begin_argument;
 use clauses::character;
 use clauses::clause_lr;
@@ -235,8 +235,8 @@ fn arguments(
             let whole = now.lexer.peek_text(text, tokens);
             let mut word = &whole[0..];
             while 0 < word.len() {
-                let tried = matcher.try_match(states, Argument::Term);
-                let Tried::Accepted(next) = tried else {
+                let matched = matcher.match_next(states, Argument::Term);
+                let Matched::Whole(next) = matched else {
                     break 'arguments;
                 };
                 let size = char_len(word);

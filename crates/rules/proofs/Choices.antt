@@ -7,10 +7,10 @@ use mathlib.Core.List.{List, [], _∷_}
 use lib.Dec.{eqb}
 use borrow.Author.Tests.{eqb-true}
 use Rattle.rules.specs.Exactly.{kindOf, isBlank, isBody}
-use Rattle.rules.specs.Items.{Item, plain, error, word, comma, group, attachment, command, environment, leftRight, skipped, itemOf, Choice, ends, holds, takes, Piece, ifTried, ifMatched, choose, nameOnly}
+use Rattle.rules.specs.Items.{Item, plain, error, word, comma, group, attachment, command, environment, leftRight, skipped, itemOf, Choice, ends, holds, takes, Piece, ifMatched, choose, nameOnly}
 use Rattle.rules.specs.Kinds.{isTrivia}
 use Rattle.rules.specs.Matcher
-use Rattle.rules.specs.Matcher.{Matcher, startMatch, startAtMost, isGreedy, tryMatch, matchAsTerm, formNone, formFixed, formRange, formGreedy, formGlob, formLeft1, formInfixGreedy}
+use Rattle.rules.specs.Matcher.{Matcher, startMatch, startAtMost, isGreedy, matchNext, formNone, formFixed, formRange, formGreedy, formGlob, formLeft1, formInfixGreedy}
 use Rattle.rules.specs.Position.{Shape, Source}
 use Rattle.rules.specs.Scope.{Scope, among, stops}
 use Rattle.rules.specs.SyntaxKind
@@ -32,14 +32,10 @@ either : (t : Bool) {x y : Choice} → Other x → Other y → Other (cond t x y
 either true h k = h
 either false h k = k
 
-tried : (piece : Piece) (t : Matcher.Tried) → Other (ifTried piece t)
-tried piece Matcher.refused = at-end
-tried piece (Matcher.accepted m) = taking
-
-matched : (scope : Scope) (m : Matcher.Matched) → Other (ifMatched scope m)
-matched scope Matcher.none = at-end
-matched scope (Matcher.whole m) = taking
-matched scope (Matcher.bare m) = taking
+matched : (piece : Piece) (m : Matcher.Matched) → Other (ifMatched piece m)
+matched piece Matcher.notAccepted = at-end
+matched piece (Matcher.whole m) = taking
+matched piece (Matcher.bare m) = taking
 
 held-if : (t : Bool) {x : Choice} → Other x → cond t holds x ≡ holds → t ≡ true
 held-if true h e = refl
@@ -52,11 +48,11 @@ unfolding choose
 held-is-trivia states scope m kind e =
     held-if (isTrivia kind)
     (either (among kind (Token.Ampersand ∷ Token.Caret ∷ Token.Underscore ∷ [])) at-end
-    (either (eqb kind Token.Word) (tried _ (tryMatch states m Matcher.term))
-    (either (eqb kind Token.LeftCurly) (matched _ (matchAsTerm states m Matcher.term))
-    (either (eqb kind Token.LeftBracket) (matched _ (matchAsTerm states m Matcher.bracket))
-    (either (eqb kind Token.LeftParen) (matched _ (matchAsTerm states m Matcher.paren))
-    (either (stops scope kind) at-end (tried _ (tryMatch states m Matcher.term))))))))
+    (either (eqb kind Token.Word) (matched _ (matchNext states m Matcher.term))
+    (either (eqb kind Token.LeftCurly) (matched _ (matchNext states m Matcher.term))
+    (either (eqb kind Token.LeftBracket) (matched _ (matchNext states m Matcher.bracket))
+    (either (eqb kind Token.LeftParen) (matched _ (matchNext states m Matcher.paren))
+    (either (stops scope kind) at-end (matched _ (matchNext states m Matcher.term))))))))
     e
 
 pub held-is-blank : (source : Source) (scope : Scope) (m : Matcher) (token : ℕ)

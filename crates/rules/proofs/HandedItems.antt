@@ -11,9 +11,9 @@ use lib.Dec.{eqb, ltb}
 use borrow.Author.Tests.{ltb-true, ltb-false, lt-ltb, eqb-true}
 use Rattle.rules.specs.Builder.{Builder}
 use Rattle.rules.specs.Cursor.{Cursor, atStart, peek}
-use Rattle.rules.specs.Items.{Item, plain, error, word, comma, group, attachment, command, environment, leftRight, skipped, itemOf, groupKind, closer, Piece, character, within, brace, item, Choice, ends, holds, takes, ifTried, ifMatched, choose, greedyStops, nameOnly, classCommand, classEnvironment}
+use Rattle.rules.specs.Items.{Item, plain, error, word, comma, group, attachment, command, environment, leftRight, skipped, itemOf, groupKind, closer, Piece, character, within, brace, item, Choice, ends, holds, takes, ifMatched, choose, greedyStops, nameOnly, classCommand, classEnvironment}
 use Rattle.rules.specs.Kinds.{isTrivia}
-use Rattle.rules.specs.Matcher.{Matcher, Tried, Matched, term, bracket, paren, tryMatch, matchAsTerm, startMatch, isGreedy, formLeft1, formInfixGreedy}
+use Rattle.rules.specs.Matcher.{Matcher, Matched, term, bracket, paren, matchNext, startMatch, isGreedy, formLeft1, formInfixGreedy}
 use Rattle.rules.specs.Matcher
 use Rattle.rules.specs.Outcome.{refused, greedyEnvironment, tooManyOpen}
 use Rattle.rules.specs.Position.{Shape, Source, At, Rule, steps, asked, place, start}
@@ -57,14 +57,10 @@ module _ (source : Source) where
     trivia : Follows source (NoWord source) c → Fits c holds
     an-argument : {what : Piece} {m : Matcher} → Follows source (Suits what) c → Fits c (takes what m)
 
-  tried-fits : {c : Cursor} {what : Piece} (t : Tried) → There source c → Suits what c → Fits c (ifTried what t)
-  tried-fits Matcher.refused there suits = an-end
-  tried-fits (Matcher.accepted m) there suits = an-argument (record { there = there; is = suits })
-
-  matched-fits : {c : Cursor} (scope : Scope) (m : Matched) → There source c → Fits c (ifMatched scope m)
-  matched-fits scope Matcher.none there = an-end
-  matched-fits scope (Matcher.whole m) there = an-argument (record { there = there; is = a-group })
-  matched-fits scope (Matcher.bare m) there = an-argument (record { there = there; is = a-brace })
+  matched-fits : {c : Cursor} {what : Piece} (m : Matched) → There source c → Suits what c → Fits c (ifMatched what m)
+  matched-fits Matcher.notAccepted there suits = an-end
+  matched-fits (Matcher.whole m) there suits = an-argument (record { there = there; is = suits })
+  matched-fits (Matcher.bare m) there suits = an-argument (record { there = there; is = a-brace })
 
   choose-fits : (c : Cursor) (scope : Scope) (m : Matcher) (kind : ℕ)
       → There source c
@@ -76,11 +72,11 @@ module _ (source : Source) where
       by-test (Fits c) (isTrivia kind) _ _ (λ e. trivia (record { there = there; is = λ word. trivia-no-word kind e (sym is ∙ word) }))
       (λ _. by-test (Fits c) (among kind (Token.Ampersand ∷ Token.Caret ∷ Token.Underscore ∷ [])) _ _ (λ _. an-end)
       (λ _. by-test (Fits c) (eqb kind Token.Word) _ _
-      (λ e. tried-fits (tryMatch states m term) there (a-character (is ∙ eqb-true kind Token.Word e)))
-      (λ _. by-test (Fits c) (eqb kind Token.LeftCurly) _ _ (λ _. matched-fits Scope.CurlyItem (matchAsTerm states m term) there)
-      (λ _. by-test (Fits c) (eqb kind Token.LeftBracket) _ _ (λ _. matched-fits Scope.BracketItem (matchAsTerm states m bracket) there)
-      (λ _. by-test (Fits c) (eqb kind Token.LeftParen) _ _ (λ _. matched-fits Scope.ParenItem (matchAsTerm states m paren) there)
-      (λ _. by-test (Fits c) (stops scope kind) _ _ (λ _. an-end) (λ _. tried-fits (tryMatch states m term) there an-item)))))))
+      (λ e. matched-fits (matchNext states m term) there (a-character (is ∙ eqb-true kind Token.Word e)))
+      (λ _. by-test (Fits c) (eqb kind Token.LeftCurly) _ _ (λ _. matched-fits (matchNext states m term) there a-group)
+      (λ _. by-test (Fits c) (eqb kind Token.LeftBracket) _ _ (λ _. matched-fits (matchNext states m bracket) there a-group)
+      (λ _. by-test (Fits c) (eqb kind Token.LeftParen) _ _ (λ _. matched-fits (matchNext states m paren) there a-group)
+      (λ _. by-test (Fits c) (stops scope kind) _ _ (λ _. an-end) (λ _. matched-fits (matchNext states m term) there an-item)))))))
 
   -- ---- how an item begins
 

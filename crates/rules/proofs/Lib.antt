@@ -17,6 +17,7 @@ pub mod HandedItems
 pub mod HandedRows
 pub mod Levels
 pub mod Listing
+pub mod Matcher
 pub mod NothingLost
 pub mod OnTree
 pub mod Progress

@@ -3,7 +3,7 @@ use Prim.Native.Nat.{ℕ}
 use mathlib.Core.Bool.{Bool, true, false, not, cond, _&&_, _||_}
 use mathlib.Core.List.{List, [], _∷_}
 use lib.Dec.{eqb, leb}
-use Rattle.rules.specs.Matcher.{term, bracket, paren, Matcher, Tried, refused, accepted, Matched, none, whole, bare, formNone, formFixed, formGreedy, formLeft1, formInfixGreedy, tryMatch, matchAsTerm}
+use Rattle.rules.specs.Matcher.{term, bracket, paren, Matcher, Matched, notAccepted, whole, bare, formNone, formFixed, formGreedy, formLeft1, formInfixGreedy, matchNext}
 use Rattle.rules.specs.Kinds.{isTrivia}
 use Rattle.rules.specs.Limits
 use Rattle.rules.specs.Position.{Shape}
@@ -165,22 +165,19 @@ pub data Choice : Type 0 where
   -- it is taken so, and the matcher goes on so
   takes : Piece → Matcher → Choice
 
-abbrev pub ifTried : Piece → Tried → Choice
-ifTried piece refused = ends
-ifTried piece (accepted m) = takes piece m
-
-abbrev pub ifMatched : Scope → Matched → Choice
-ifMatched scope none = ends
-ifMatched scope (whole m) = takes (within scope) m
-ifMatched scope (bare m) = takes brace m
+-- by the matcher's answer: the arguments end, the piece is taken whole, or its opening brace alone
+abbrev pub ifMatched : Piece → Matched → Choice
+ifMatched piece notAccepted = ends
+ifMatched piece (whole m) = takes piece m
+ifMatched piece (bare m) = takes brace m
 
 -- the arms of `match_arguments_`. "Non-greedy: stops at `&`, `^`, `_` and the scope's stops. Trivia is held; .."
 unfoldable pub choose : List ℕ → Scope → Matcher → ℕ → Choice
 choose states scope m kind =
     cond (isTrivia kind) holds
     (cond (among kind (Token.Ampersand ∷ Token.Caret ∷ Token.Underscore ∷ [])) ends
-    (cond (eqb kind Token.Word) (ifTried character (tryMatch states m term))
-    (cond (eqb kind Token.LeftCurly) (ifMatched Scope.CurlyItem (matchAsTerm states m term))
-    (cond (eqb kind Token.LeftBracket) (ifMatched Scope.BracketItem (matchAsTerm states m bracket))
-    (cond (eqb kind Token.LeftParen) (ifMatched Scope.ParenItem (matchAsTerm states m paren))
-    (cond (stops scope kind) ends (ifTried item (tryMatch states m term))))))))
+    (cond (eqb kind Token.Word) (ifMatched character (matchNext states m term))
+    (cond (eqb kind Token.LeftCurly) (ifMatched (within Scope.CurlyItem) (matchNext states m term))
+    (cond (eqb kind Token.LeftBracket) (ifMatched (within Scope.BracketItem) (matchNext states m bracket))
+    (cond (eqb kind Token.LeftParen) (ifMatched (within Scope.ParenItem) (matchNext states m paren))
+    (cond (stops scope kind) ends (ifMatched item (matchNext states m term))))))))

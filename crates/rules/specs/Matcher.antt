@@ -37,11 +37,6 @@ column term = 0
 column bracket = 1
 column paren = 2
 
-abbrev pub isTerm : Argument → Bool
-isTerm term = true
-isTerm bracket = false
-isTerm paren = false
-
 pub data Matcher : Type 0 where
   -- accepts nothing
   nothing : Matcher
@@ -51,11 +46,6 @@ pub data Matcher : Type 0 where
   greedy : Matcher
   -- stands at a state of the table: "The glob string becomes a state number."
   glob : ℕ → Matcher
-
--- an answer: refused, or accepted with the matcher for what comes next
-pub data Tried : Type 0 where
-  refused : Tried
-  accepted : Matcher → Tried
 
 -- "State row: for t, b, p the next state, or 0 for not accepted." States count from 1: 0 is none, and accepts nothing
 abbrev pub nextState : List ℕ → ℕ → Argument → ℕ
@@ -80,32 +70,24 @@ isGreedy (atMost n counter) = false
 isGreedy greedy = true
 isGreedy (glob state) = false
 
--- "At most n terms: n accepted, then refused." "At n = 255 .. attempt 256: .. release stops, as the port does." "Glob: the state moves by t, b, p"
-unfoldable pub tryMatch : List ℕ → Matcher → Argument → Tried
-tryMatch states nothing a = refused
-tryMatch states (atMost n counter) term = cond (ltb counter n) (accepted (atMost n (counter + 1))) refused
-tryMatch states (atMost n counter) bracket = refused
-tryMatch states (atMost n counter) paren = refused
-tryMatch states greedy a = accepted greedy
-tryMatch states (glob state) a = cond (eqb (nextState states state a) 0) refused (accepted (glob (nextState states state a)))
-
--- an answer at an opening brace: refused, or accepted as a whole group or as the bare brace
+-- "the matcher answers not accepted, accepted as a whole item, or accepted as a bare token, with its next state" (02, #109)
 pub data Matched : Type 0 where
-  none : Matched
+  notAccepted : Matched
   whole : Matcher → Matched
   bare : Matcher → Matched
 
-abbrev pub asGroup : Tried → Matched
-asGroup refused = none
-asGroup (accepted m) = whole m
+-- accepted where terms are: a term is read whole, and "`[` or `(` counts as a term and is eaten alone."
+abbrev pub asTerm : Argument → Matcher → Matched
+asTerm term next = whole next
+asTerm bracket next = bare next
+asTerm paren next = bare next
 
-abbrev pub asTerm : Argument → Tried → Matched
-asTerm a refused = none
-asTerm a (accepted m) = cond (isTerm a) (whole m) (bare m)
-
--- "`[` or `(` counts as a term and is eaten alone." (at most, and greedy: "`[` and `(` are eaten plain") "Glob: .. `[` and `(` read whole groups."
-unfoldable pub matchAsTerm : List ℕ → Matcher → Argument → Matched
-matchAsTerm states nothing a = none
-matchAsTerm states (atMost n counter) a = asTerm a (tryMatch states (atMost n counter) term)
-matchAsTerm states greedy a = asTerm a (accepted greedy)
-matchAsTerm states (glob state) a = asGroup (tryMatch states (glob state) a)
+-- "given the kind of what comes next, the matcher answers" (02, #109). "At most n terms: n accepted, then refused." "At n = 255 .. attempt 256: ..
+-- release stops, as the port does." Greedy: "`[` and `(` are eaten plain." "Glob: the state moves by t, b, p; `[` and `(` read whole groups."
+unfoldable pub matchNext : List ℕ → Matcher → Argument → Matched
+matchNext states nothing next = notAccepted
+matchNext states (atMost n counter) next = cond (ltb counter n) (asTerm next (atMost n (counter + 1))) notAccepted
+matchNext states greedy next = asTerm next greedy
+matchNext states (glob state) next =
+    let moved = nextState states state next in
+    cond (eqb moved 0) notAccepted (whole (glob moved))

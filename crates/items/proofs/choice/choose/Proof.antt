@@ -6,9 +6,9 @@ use Prim.Native.Nat.{ℕ}
 use mathlib.Core.List.{List, [], _∷_}
 use mathlib.Core.Logic.{⊎-elim}
 use mathlib.Core.Path.{_≡_, sym, _∙_}
-use Rattle.rules.specs.Items.{choose, ends, ifTried, item}
+use Rattle.rules.specs.Items.{choose, ends, ifMatched, item}
 use Rattle.rules.specs.Kinds.{isTrivia}
-use Rattle.rules.specs.Matcher.{Matcher, term, tryMatch}
+use Rattle.rules.specs.Matcher.{Matcher, term, matchNext}
 use Rattle.rules.specs.Scope.{Scope, stops}
 use Rattle.rules.specs.Token
 use Rattle.arg_match.specs.Answers.{matcherOf}
@@ -31,15 +31,15 @@ returns-4 c = ⊎-elim (λ e. rw e) (λ e. rw e) (c .match .keys2)
 
 returns-5 : tie.Need-returns-5
 unfolding choose isTrivia
-returns-5 c = c .if-matched .ensures ∙ rw (c .before .match-as-term .ensures, c .before .before .match .keys3)
+returns-5 c = c .if-matched .ensures ∙ rw (c .before .match-next .ensures, c .before .before .match .keys3)
 
 returns-6 : tie.Need-returns-6
 unfolding choose isTrivia
-returns-6 c = c .if-matched2 .ensures ∙ rw (c .before .match-as-term2 .ensures, c .before .before .match .keys4)
+returns-6 c = c .if-matched2 .ensures ∙ rw (c .before .match-next2 .ensures, c .before .before .match .keys4)
 
 returns-7 : tie.Need-returns-7
 unfolding choose isTrivia
-returns-7 c = c .if-matched3 .ensures ∙ rw (c .before .match-as-term3 .ensures, c .before .before .match .keys5)
+returns-7 c = c .if-matched3 .ensures ∙ rw (c .before .match-next3 .ensures, c .before .before .match .keys5)
 
 -- the keys of the arms, in order
 abbrev arms : List (List ℕ)
@@ -53,14 +53,14 @@ arms =
 
 -- the rule at a number that is no trivia, no arm's key and no Word's
 no-arm : (states : List ℕ) (scope : Scope) (m : Matcher) (kind : ℕ) → isTrivia kind ≡ false → (kind ≡ Token.Word → ⊥) → Rest kind Unit arms
-    → {stop : Bool} → stop ≡ stops scope kind → choose states scope m kind ≡ cond stop ends (ifTried item (tryMatch states m term))
+    → {stop : Bool} → stop ≡ stops scope kind → choose states scope m kind ≡ cond stop ends (ifMatched item (matchNext states m term))
 unfolding choose
 no-arm states scope m kind trivia word rest is = rw (is, trivia, ne-eqb kind Token.Word word) (simp (no-key kind arms rest))
 
 otherwise : (c : tie.After-stop-by-scope) →
     let a = c .before .before .before .before .before .args in
     choose (a .states .now) (scopeOf (a .scope)) (matcherOf (a .matcher)) (a .kind)
-    ≡ cond (c .stop-by-scope .result) ends (ifTried item (tryMatch (a .states .now) (matcherOf (a .matcher)) term))
+    ≡ cond (c .stop-by-scope .result) ends (ifMatched item (matchNext (a .states .now) (matcherOf (a .matcher)) term))
 otherwise c =
     let asked = c .before .before .before in
     let no-trivia = sym (asked .is-trivia .ensures) ∙ c .before .before .if1 .left in
@@ -70,7 +70,7 @@ returns-2 : tie.Need-returns-2
 returns-2 c = rw (otherwise (c .before), c .if2 .taken)
 
 returns-8 : tie.Need-returns-8
-returns-8 c = c .if-tried .ensures ∙ rw (c .before .try-match .ensures, otherwise (c .before .before .before), c .before .before .if2 .left)
+returns-8 c = c .if-matched4 .ensures ∙ rw (c .before .match-next4 .ensures, otherwise (c .before .before .before), c .before .before .if2 .left)
 
 pub choose-spec : {M : Type 1} → statement M
 choose-spec =

@@ -6,17 +6,18 @@ use mathlib.Core.Path.{_≡_, sym, ap, _∙_}
 use native.Mathlib.Omega.{arith}
 use lib.ListN.{length, drop}
 use Rattle.rules.specs.Checks.{Tables}
-use Rattle.rules.specs.Matcher.{accepted, term, tryMatch}
+use Rattle.rules.specs.Matcher.{notAccepted, whole, term, matchNext}
 use Rattle.rules.proofs.Characters.{char-fits}
 use Rattle.lexer.specs.Reading.{peekedOf}
 use Rattle.lexer.proofs.Laws.{peeked}
 use Rattle.lexer.proofs.Utf8.{to-the-end}
-use Rattle.arg_match.specs.Answers.{matcherOf, triedOf}
+use Rattle.arg_match.specs.Answers.{matcherOf, matchedOf}
 use Rattle.items.specs.Items.{choiceFor}
 use Rattle.items.specs.declared.choice.Choice.{Choice}
 use Rattle.state.specs.Stands.{Buffers}
 use Rattle.parser.specs.Member.{Next, buffers, given, lent}
 use Rattle.parser.proofs.ArgumentLoop.{Chosen, at-end, by-kind, arguments-begin, arguments-end, arguments-hold, arguments-hold-less, arguments-stop, arguments-take, arguments-take-less}
+use Rattle.parser.proofs.Choices.{character-refused}
 use Rattle.parser.proofs.Lent.{of-tree, of-dropped}
 use Rattle.parser.proofs.WordLoop.{Taking, taking-begins, taking-ends, taking-known, taking-stops, taking-less, taking-goes-on}
 use Rattle.parser.proofs.arguments.Reads as own
@@ -54,9 +55,14 @@ taking : {t : ℕ} (c : Place lts.At-loop t)
 taking c = c .loop .inv _ _ _ (at-loop→at-arguments c .arguments .inv)
 
 -- a character is accepted
-tried-here : {t : ℕ} (c : Place lts.After-tried t)
-    → accepted (matcherOf (c .tried .given .0 .0)) ≡ tryMatch (tried→entry c .args .states .now) (matcherOf (tried→at-loop c .loop .matcher)) term
-tried-here c = ap triedOf (sym (c .tried .given .1)) ∙ tried→try-match c .try-match .ensures
+matched-here : {t : ℕ} (c : Place lts.After-matched t)
+    → whole (matcherOf (c .matched .given .0 .0)) ≡ matchNext (matched→entry c .args .states .now) (matcherOf (matched→at-loop c .loop .matcher)) term
+matched-here c = ap matchedOf (sym (c .matched .given .1)) ∙ matched→match-next c .match-next .ensures
+
+-- none is accepted
+refused-here : {t : ℕ} (c : Place lts.At-match2-keys2 t)
+    → notAccepted ≡ matchNext (match2-keys2→entry c .args .states .now) (matcherOf (match2-keys2→at-loop c .loop .matcher)) term
+refused-here c = character-refused _ _ (c .before .match-next .result) (c .match2 .keys2) (c .before .match-next .ensures)
 
 -- its bytes are there
 size-fits : {t : ℕ} (c : Place lts.After-char-len t) → c .char-len .result ≤ length (char-len→at-loop c .loop .word .now)
@@ -88,7 +94,6 @@ meets t =
     (λ c. taking (c .before) .far)
     (λ c κs. search needs)
     (λ c. search needs)
-    (λ c. search needs)
     (λ c κs. search needs)
     -- character
     (λ c κs.
@@ -103,33 +108,33 @@ meets t =
     (λ c. again→character c .character .kept .1 .1 .0 ∙ taking (again→at-loop c) .far .walk .passed .notes-long)
     (λ c.
     rw (c .again .ensures) (taking-stops _ _ _ _ (taking (again→at-loop c)) (again→in-loop c .loop-test .taken)
-    (tried-here (again→tried c)) (again→character c .character .ensures) (c .before .enum-told3 .given)))
+    (matched-here (again→matched c)) (again→character c .character .ensures) (c .before .enum-told2 .given)))
     (λ c. let fits = size-fits (known-told3→char-len c) in omega arith)
     (λ c. let fits = size-fits (known-told3→char-len c) in omega arith)
     (λ c. search needs)
     (λ c.
-    taking-less _ _ _ _ (taking (word2→at-loop c)) (word2→in-loop c .loop-test .taken) (tried-here (word2→tried c))
+    taking-less _ _ _ _ (taking (word2→at-loop c)) (word2→in-loop c .loop-test .taken) (matched-here (word2→matched c))
     (word2→character c .character .ensures) (word2→taken c .taken .given .1))
     (λ c.
     let word = word2→at-loop c .loop .word .now in
     let rest = to-the-end word (word2→char-len c .char-len .result) ∙ ap (λ size. drop size word) (word2→char-len c .char-len .ensures) in
     λ p first b far. taking-goes-on _ _ _ _ (word2→at-loop c .loop .inv p first b far) (word2→in-loop c .loop-test .taken)
-    (tried-here (word2→tried c)) (word2→character c .character .ensures) (word2→taken c .taken .given .1) rest)
+    (matched-here (word2→matched c)) (word2→character c .character .ensures) (word2→taken c .taken .given .1) rest)
     (λ c κs. search needs)
     (λ c κs. scope→else1 c .if1 .left)
     (λ c. search needs)
     (λ c. search needs)
     -- hold-trivia
     (λ c κs.
-    let few = told5→at-arguments c .arguments .inv .walk .ready .steady .good .few in
-    let token = told5→at-arguments c .arguments .inv .walk .ready .steady .token in
+    let few = told4→at-arguments c .arguments .inv .walk .ready .steady .good .few in
+    let token = told4→at-arguments c .arguments .inv .walk .ready .steady .token in
     omega arith)
     (λ c.
     arguments-hold-less _ _ _ _ (hold-trivia→at-arguments c .arguments .inv) (next (hold-trivia→peeked c))
-    (chosen-here (hold-trivia→choose c) (c .before .enum-told5 .given .1)) (c .hold-trivia .ensures))
+    (chosen-here (hold-trivia→choose c) (c .before .enum-told4 .given .1)) (c .hold-trivia .ensures))
     (λ c.
     arguments-hold _ _ _ _ (hold-trivia→at-arguments c .arguments .inv) (next (hold-trivia→peeked c))
-    (chosen-here (hold-trivia→choose c) (c .before .enum-told5 .given .1)) (c .hold-trivia .ensures))
+    (chosen-here (hold-trivia→choose c) (c .before .enum-told4 .given .1)) (c .hold-trivia .ensures))
     (λ c. search needs)
     -- arg
     (λ c κs.
@@ -144,7 +149,7 @@ meets t =
     (λ c. of-dropped (again2→arg c .arg .kept) ∙ again2→at-arguments c .arguments .inv .walk .passed .notes-long)
     (λ c.
     rw (c .again2 .ensures) (arguments-stop _ _ _ _ (again2→at-arguments c .arguments .inv) (next (again2→peeked c))
-    (chosen-here (again2→choose c) (again2→choice c .choice .given .1)) (again2→arg c .arg .ensures) (c .before .enum-told6 .given)))
+    (chosen-here (again2→choose c) (again2→choice c .choice .given .1)) (again2→arg c .arg .ensures) (c .before .enum-told5 .given)))
     (λ c.
     arguments-take-less _ _ _ _ (known-told5→at-arguments c .arguments .inv) (next (known-told5→peeked c))
     (chosen-here (known-told5→choose c) (known-told5→choice c .choice .given .1)) (known-told5→arg c .arg .ensures) (c .before .read .given .1))
@@ -156,12 +161,12 @@ meets t =
     (λ c.
     arguments-end _ _ _ _ (told→at-arguments c .arguments .inv)
     (at-end _ _ _ _ (told→at-arguments c .arguments .inv) (told→peek c .peek .ensures ∙ ap peekedOf (c .enum-told .given .1))))
-    (λ c. taking (told2→at-loop c) .far .walk .passed .tree-long)
-    (λ c. taking (told2→at-loop c) .far .walk .passed .notes-long)
+    (λ c. taking (match2-keys2→at-loop c) .far .walk .passed .tree-long)
+    (λ c. taking (match2-keys2→at-loop c) .far .walk .passed .notes-long)
     (λ c.
-    taking-ends _ _ _ _ (taking (told2→at-loop c)) (told2→in-loop c .loop-test .taken)
-    (ap triedOf (sym (c .enum-told2 .given .1)) ∙ told2→try-match c .try-match .ensures))
-    (λ c. told4→at-arguments c .arguments .inv .walk .passed .tree-long)
-    (λ c. told4→at-arguments c .arguments .inv .walk .passed .notes-long)
+    taking-ends _ _ _ _ (taking (match2-keys2→at-loop c)) (match2-keys2→in-loop c .loop-test .taken)
+    (refused-here c))
+    (λ c. told3→at-arguments c .arguments .inv .walk .passed .tree-long)
+    (λ c. told3→at-arguments c .arguments .inv .walk .passed .notes-long)
     (λ c.
-    arguments-end _ _ _ _ (told4→at-arguments c .arguments .inv) (chosen-here (told4→choose c) (c .enum-told4 .given .1)))
+    arguments-end _ _ _ _ (told3→at-arguments c .arguments .inv) (chosen-here (told3→choose c) (c .enum-told3 .given .1)))

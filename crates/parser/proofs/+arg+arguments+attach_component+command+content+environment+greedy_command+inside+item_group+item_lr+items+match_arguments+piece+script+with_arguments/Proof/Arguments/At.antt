@@ -8,10 +8,10 @@ use Rattle.lexer.proofs.char_len.Reads as char-len-reads
 use Rattle.clauses.proofs.character.Reads as character-reads
 use Rattle.items.proofs.choose.Reads as choose-reads
 use Rattle.routines.proofs.hold_trivia.Reads as hold-trivia-reads
+use Rattle.arg_match.proofs.ArgMatcher.match_next.Reads as match-next-reads
 use Rattle.lexer.proofs.cursor.Lexer.peek.Reads as peek-reads
 use Rattle.lexer.proofs.cursor.Lexer.peek_text.Reads as peek-text-reads
 use Rattle.state.proofs.Parser.scope.Reads as scope-reads
-use Rattle.arg_match.proofs.ArgMatcher.try_match.Reads as try-match-reads
 use Rattle.parser.proofs.arguments.Reads as own
 use Rattle.parser.proofs.+arg+arguments+attach_component+command+content+environment+greedy_command+inside+item_group+item_lr+items+match_arguments+piece+script+with_arguments as cycle
 use cycle.Lts-arguments as lts
@@ -25,8 +25,8 @@ claims t = (
   peek-reads.Learnt,
   peek-text-reads.Asked,
   peek-text-reads.Learnt,
-  try-match-reads.Asked,
-  try-match-reads.Learnt,
+  match-next-reads.Asked,
+  match-next-reads.Learnt,
   char-len-reads.Asked,
   char-len-reads.Learnt,
   character-reads.Asked,
@@ -92,23 +92,23 @@ module _ {t : ℕ} where
   abbrev pub at-loop→entry : Place lts.At-loop t → Place lts.Start t
   at-loop→entry c = c .before .before .before .before .before .before .before .before .before .before .before .before .before .before .before
 
-  abbrev pub tried→try-match : Place lts.After-tried t → Place lts.After-try-match t
-  tried→try-match c = c .before .before
+  abbrev pub matched→match-next : Place lts.After-matched t → Place lts.After-match-next t
+  matched→match-next c = c .before .before
 
-  abbrev pub tried→at-loop : Place lts.After-tried t → Place lts.At-loop t
-  tried→at-loop c = c .before .before .before .before
+  abbrev pub matched→at-loop : Place lts.After-matched t → Place lts.At-loop t
+  matched→at-loop c = c .before .before .before .before
 
-  abbrev pub tried→entry : Place lts.After-tried t → Place lts.Start t
-  tried→entry c = at-loop→entry (tried→at-loop c)
+  abbrev pub matched→entry : Place lts.After-matched t → Place lts.Start t
+  matched→entry c = at-loop→entry (matched→at-loop c)
 
-  abbrev pub told2→try-match : Place lts.After-enum-told2 t → Place lts.After-try-match t
-  told2→try-match c = c .before .before
+  abbrev pub match2-keys2→in-loop : Place lts.At-match2-keys2 t → Place lts.In-loop t
+  match2-keys2→in-loop c = c .before .before
 
-  abbrev pub told2→in-loop : Place lts.After-enum-told2 t → Place lts.In-loop t
-  told2→in-loop c = c .before .before .before
+  abbrev pub match2-keys2→at-loop : Place lts.At-match2-keys2 t → Place lts.At-loop t
+  match2-keys2→at-loop c = c .before .before .before
 
-  abbrev pub told2→at-loop : Place lts.After-enum-told2 t → Place lts.At-loop t
-  told2→at-loop c = c .before .before .before .before
+  abbrev pub match2-keys2→entry : Place lts.At-match2-keys2 t → Place lts.Start t
+  match2-keys2→entry c = at-loop→entry (match2-keys2→at-loop c)
 
   abbrev pub char-len→at-loop : Place lts.After-char-len t → Place lts.At-loop t
   char-len→at-loop c = c .before .before .before .before .before .before
@@ -125,14 +125,14 @@ module _ {t : ℕ} where
   abbrev pub again→character : Place lts.After-again t → Place lts.After-character t
   again→character c = c .before .before .before .before .before .before .before
 
-  abbrev pub again→tried : Place lts.After-again t → Place lts.After-tried t
-  again→tried c = c .before .before .before .before .before .before .before .before .before .before .before .before
+  abbrev pub again→matched : Place lts.After-again t → Place lts.After-matched t
+  again→matched c = c .before .before .before .before .before .before .before .before .before .before .before .before
 
   abbrev pub again→in-loop : Place lts.After-again t → Place lts.In-loop t
   again→in-loop c = c .before .before .before .before .before .before .before .before .before .before .before .before .before .before .before
 
   abbrev pub again→at-loop : Place lts.After-again t → Place lts.At-loop t
-  again→at-loop c = tried→at-loop (again→tried c)
+  again→at-loop c = matched→at-loop (again→matched c)
 
   abbrev pub word2→taken : Place lts.After-word2 t → Place lts.After-taken t
   word2→taken c = c .before .before
@@ -143,14 +143,14 @@ module _ {t : ℕ} where
   abbrev pub word2→char-len : Place lts.After-word2 t → Place lts.After-char-len t
   word2→char-len c = c .before .before .before .before .before .before .before .before .before .before .before
 
-  abbrev pub word2→tried : Place lts.After-word2 t → Place lts.After-tried t
-  word2→tried c = c .before .before .before .before .before .before .before .before .before .before .before .before .before
+  abbrev pub word2→matched : Place lts.After-word2 t → Place lts.After-matched t
+  word2→matched c = c .before .before .before .before .before .before .before .before .before .before .before .before .before
 
   abbrev pub word2→in-loop : Place lts.After-word2 t → Place lts.In-loop t
   word2→in-loop c = c .before .before .before .before .before .before .before .before .before .before .before .before .before .before .before .before
 
   abbrev pub word2→at-loop : Place lts.After-word2 t → Place lts.At-loop t
-  word2→at-loop c = tried→at-loop (word2→tried c)
+  word2→at-loop c = matched→at-loop (word2→matched c)
 
   abbrev pub scope→else1 : Place lts.After-scope t → Place lts.Else1 t
   scope→else1 c = c .before
@@ -164,14 +164,14 @@ module _ {t : ℕ} where
   abbrev pub choose→at-arguments : Place lts.After-choose t → Place lts.At-arguments t
   choose→at-arguments c = peeked→at-arguments (choose→peeked c)
 
-  abbrev pub told4→choose : Place lts.After-enum-told4 t → Place lts.After-choose t
-  told4→choose c = c .before .before
+  abbrev pub told3→choose : Place lts.After-enum-told3 t → Place lts.After-choose t
+  told3→choose c = c .before .before
+
+  abbrev pub told3→at-arguments : Place lts.After-enum-told3 t → Place lts.At-arguments t
+  told3→at-arguments c = choose→at-arguments (told3→choose c)
 
   abbrev pub told4→at-arguments : Place lts.After-enum-told4 t → Place lts.At-arguments t
-  told4→at-arguments c = choose→at-arguments (told4→choose c)
-
-  abbrev pub told5→at-arguments : Place lts.After-enum-told5 t → Place lts.At-arguments t
-  told5→at-arguments c = c .before .before .before .before .before .before .before .before .before
+  told4→at-arguments c = c .before .before .before .before .before .before .before .before .before
 
   abbrev pub hold-trivia→choose : Place lts.After-hold-trivia t → Place lts.After-choose t
   hold-trivia→choose c = c .before .before .before
