@@ -5,7 +5,7 @@ ghost use Rattle.arg_match.specs.Answers.{argumentOf, matchedOf, matcher
 use syntax::Form;
 use syntax::Limits;
 
-// What comes next, as the matcher sees it: a term, a bracket group or a paren group (t, b, p).
+// What comes next, as the matcher sees it: a term, or what `[` or `(` begins (t, b, p).
 pub enum Argument {
     Term,
     Bracket,
@@ -24,8 +24,8 @@ pub enum ArgMatcher {
     Glob { state: u32 },
 }
 
-// The answer about what comes next: not accepted, accepted as a whole item, or accepted as a bare token, each of the two with the matcher for what
-// comes behind it.
+// The answer about what comes next: not accepted, accepted as a whole item, or accepted as a bare token; the last two with the matcher for what
+// comes then.
 pub enum Matched {
     NotAccepted,
     Whole(ArgMatcher),
@@ -44,7 +44,7 @@ impl Argument {
         }
     }
 
-    // Accepted where terms are: a term is read whole, an opening brace counts as one and is eaten alone.
+    // Accepted as a term: a term is read whole, `[` or `(` counts as one and is eaten alone.
     fn as_term(self, next: ArgMatcher) -> Matched
         ensures { λ r. ⌜ matchedOf r ≡ asTerm (argumentOf self) (matcherOf next) ⌝ }
     {

@@ -68,7 +68,7 @@ fn if_matched(piece: Piece, matched: Matched) -> Choice
     }
 }
 
-// What follows if a token of this kind is next. A Word's characters are tried one by one before this is asked.
+// What follows if a token of this kind is next. A Word does not come here: its characters are asked about one by one.
 pub fn choose(states: &[u32], scope: ParseScope, matcher: ArgMatcher, kind: u32) -> Choice
     requires { ⌜ (kind ≡ wordKind → ⊥) ⌝ }
     ensures { λ r. ⌜ choiceFor r ≡ choose (now (states .entry)) (scopeOf scope) (matcherOf matcher) kind ⌝ }

@@ -22,7 +22,7 @@ pub choose-word : (states : List ℕ) (scope : Scope) (m : Matcher) → choose s
 unfolding choose isTrivia
 choose-word states scope m = refl
 
--- the answer is none of the cases with which the loop goes on, by its case's number
+-- an answer about a character that is not `Whole`, by its case's number, is `NotAccepted`: `Bare` never comes
 pub character-refused : (states : List ℕ) (m : Matcher) (answer : Matched) → OneOf (0 ∷ 2 ∷ []) (tagOf declared.the-type answer)
     → matchedOf answer ≡ matchNext states m term
     → notAccepted ≡ matchNext states m term

@@ -106,11 +106,11 @@ module _ (t : Tables) where
             still-before some-more =
                 let here = k .before some-left in
                 let c = cursorOf (q .lexer) in
-                let whole = peekText (t .text) (t .tokens) c in
-                let size = charLength whole in
-                let long : length whole ≡ restLength (t .tokens) c = rest-length (k .far .walk .ready .steady .fine) (here .there) in
-                let left : 0 < length (drop size whole) = rw (e-rest, here .is) at some-more in
-                let shorter : size < restLength (t .tokens) c = omega (arith, length-drop size whole) in
+                let bytes = peekText (t .text) (t .tokens) c in
+                let size = charLength bytes in
+                let long : length bytes ≡ restLength (t .tokens) c = rest-length (k .far .walk .ready .steady .fine) (here .there) in
+                let left : 0 < length (drop size bytes) = rw (e-rest, here .is) at some-more in
+                let shorter : size < restLength (t .tokens) c = omega (arith, length-drop size bytes) in
                 let further-on : Cursor = record { token = c .token; taken = c .taken + size } in
                 let behind : cursorOf (z .lexer) ≡ further-on = character-behind read went-on ∙ consumed-part (t .tokens) size c shorter in
                 let text-there = ap (peekText (t .text) (t .tokens)) behind ∙ further (t .text) (t .tokens) c size in

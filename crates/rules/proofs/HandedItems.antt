@@ -15,7 +15,7 @@ use Rattle.rules.specs.Items.{Item, plain, error, word, comma, group, at
 use Rattle.rules.specs.Kinds.{isTrivia}
 use Rattle.rules.specs.Matcher.{Matcher, Matched, term, bracket, paren, matchNext, startMatch, isGreedy, formLeft1, formInfixGreedy}
 use Rattle.rules.specs.Matcher
-use Rattle.rules.specs.Outcome.{refused, greedyEnvironment, tooManyOpen}
+use Rattle.rules.specs.Outcome.{greedyEnvironment, tooManyOpen}
 use Rattle.rules.specs.Position.{Shape, Source, At, Rule, steps, asked, place, start}
 use Rattle.rules.specs.Reading.{shapeHere, lastAfter, items, itemList, itemGroup, piece, argument, chosen, choiceFor, arguments, matchArguments, argumentsOf, withArguments, greedyItems, greedyArgument, greedyCommand, commandOf, beginClause, environmentItem, itemLr, script, attachmentAt, attachTo, attachComponent, readItem, contentFor, content, contentAt, parse}
 use Rattle.rules.specs.Routines.{next, turns, argumentBegins, argumentEnds, argumentNode}

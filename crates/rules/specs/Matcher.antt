@@ -28,7 +28,7 @@ formLeft1 = 5
 abbrev pub formInfixGreedy : ℕ
 formInfixGreedy = 6
 
--- "t, b, p": what comes next, as the matcher sees it: a term, a bracket group, a paren group. The columns of a state row are in this order
+-- "t, b, p": what comes next, as the matcher sees it: a term, or what `[` or `(` begins. The columns of a state row are in this order
 pub data Argument : Type 0 where
   term bracket paren : Argument
 
@@ -76,7 +76,7 @@ pub data Matched : Type 0 where
   whole : Matcher → Matched
   bare : Matcher → Matched
 
--- accepted where terms are: a term is read whole, and "`[` or `(` counts as a term and is eaten alone."
+-- accepted as a term: a term is read whole, and "`[` or `(` counts as a term and is eaten alone."
 abbrev pub asTerm : Argument → Matcher → Matched
 asTerm term next = whole next
 asTerm bracket next = bare next
@@ -85,9 +85,9 @@ asTerm paren next = bare next
 -- "given the kind of what comes next, the matcher answers" (02, #109). "At most n terms: n accepted, then refused." "At n = 255 .. attempt 256: ..
 -- release stops, as the port does." Greedy: "`[` and `(` are eaten plain." "Glob: the state moves by t, b, p; `[` and `(` read whole groups."
 unfoldable pub matchNext : List ℕ → Matcher → Argument → Matched
-matchNext states nothing next = notAccepted
-matchNext states (atMost n counter) next = cond (ltb counter n) (asTerm next (atMost n (counter + 1))) notAccepted
-matchNext states greedy next = asTerm next greedy
-matchNext states (glob state) next =
-    let moved = nextState states state next in
+matchNext states nothing a = notAccepted
+matchNext states (atMost n counter) a = cond (ltb counter n) (asTerm a (atMost n (counter + 1))) notAccepted
+matchNext states greedy a = asTerm a greedy
+matchNext states (glob state) a =
+    let moved = nextState states state a in
     cond (eqb moved 0) notAccepted (whole (glob moved))
