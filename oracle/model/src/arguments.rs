@@ -1,7 +1,7 @@
 //! Arguments behind a command or a `\begin`.
 
 use crate::kinds::*;
-use crate::matcher::{Letter, Matcher};
+use crate::matcher::{Letter, Matcher, Verdict};
 use crate::reader::Reader;
 use crate::refusal::Step;
 use crate::slip::Slip;
@@ -53,26 +53,34 @@ impl Reader<'_, '_> {
                 WORD => {
                     let word = self.at;
                     while self.at == word {
-                        if !matcher.accepts(Letter::Term, self.tables) {
+                        let Verdict::Whole(next) = matcher.verdict(Letter::Term, self.tables)
+                        else {
                             break 'arguments;
-                        }
+                        };
+                        matcher = next;
                         self.argument(Self::eat_char)?;
                     }
                 }
                 LEFT_CURLY | LEFT_BRACKET | LEFT_PAREN => {
                     let letter = Letter::of_opener(kind);
-                    if !matcher.accepts(letter, self.tables) {
-                        break;
-                    }
-                    match matcher.takes_alone(letter) {
-                        true => self.argument(Self::eat)?,
-                        false => self.argument(|this| this.group(scope_of(letter)))?,
+                    match matcher.verdict(letter, self.tables) {
+                        Verdict::NotAccepted => break,
+                        Verdict::Whole(next) => {
+                            matcher = next;
+                            self.argument(|this| this.group(scope_of(letter)))?;
+                        }
+                        Verdict::Bare(next) => {
+                            matcher = next;
+                            self.argument(Self::eat)?;
+                        }
                     }
                 }
+                _ if self.stops(kind) => break,
                 _ => {
-                    if self.stops(kind) || !matcher.accepts(Letter::Term, self.tables) {
+                    let Verdict::Whole(next) = matcher.verdict(Letter::Term, self.tables) else {
                         break;
-                    }
+                    };
+                    matcher = next;
                     self.argument(|this| this.content(true).and(Ok(())))?;
                 }
             }

@@ -31,6 +31,16 @@ pub(crate) enum Matcher {
     Glob { state: u32 },
 }
 
+/// What a matcher answers; where it accepts, with its next state.
+#[derive(Debug, Clone, Copy, PartialEq, Eq)]
+pub(crate) enum Verdict {
+    NotAccepted,
+    /// As a whole item.
+    Whole(Matcher),
+    /// As a bare token.
+    Bare(Matcher),
+}
+
 impl Matcher {
     pub fn of(shape: Shape) -> Self {
         match shape.form {
@@ -41,26 +51,28 @@ impl Matcher {
         }
     }
 
-    /// Whether an argument with this letter is accepted.
-    pub fn accepts(&mut self, letter: Letter, tables: &Tables) -> bool {
+    /// The one question (02, #109): whether what comes next is accepted, and as what.
+    pub fn verdict(self, letter: Letter, tables: &Tables) -> Verdict {
         match self {
-            Matcher::Nothing => false,
-            Matcher::Greedy => true,
-            Matcher::AtMost { left: 0 } => false,
+            Matcher::Nothing | Matcher::AtMost { left: 0 } => Verdict::NotAccepted,
             Matcher::AtMost { left } => {
-                *left -= 1;
-                true
+                Verdict::as_term(letter, Matcher::AtMost { left: left - 1 })
             }
-            Matcher::Glob { state } => {
-                *state = tables.state(*state as usize - 1)[letter as usize];
-                *state != 0
-            }
+            Matcher::Greedy => Verdict::as_term(letter, self),
+            Matcher::Glob { state } => match tables.state(state as usize - 1)[letter as usize] {
+                0 => Verdict::NotAccepted,
+                state => Verdict::Whole(Matcher::Glob { state }),
+            },
         }
     }
+}
 
-    /// Whether an accepted `[` or `(` is taken alone, as a term, and not as a group.
-    pub fn takes_alone(self, letter: Letter) -> bool {
-        let globs = matches!(self, Matcher::Glob { .. });
-        letter != Letter::Term && !globs
+impl Verdict {
+    /// A `[` or `(` counts as a term and is eaten alone.
+    fn as_term(letter: Letter, next: Matcher) -> Self {
+        match letter {
+            Letter::Term => Verdict::Whole(next),
+            Letter::Bracket | Letter::Paren => Verdict::Bare(next),
+        }
     }
 }
