@@ -120,7 +120,7 @@ impl ArgMatcher {
             } else {
                 Matched::NotAccepted
             },
-            Self::Greedy => argument.as_term(self),
+            Self::Greedy => argument.as_term(Self::Greedy),
             Self::Glob { state } => {
                 let next = next_state(states, state, argument);
                 if next == 0 {
