@@ -63,8 +63,14 @@ right-from right (suc n) from e i low high =
     right-from right n (from + 1) (sym (next-row right n from met) ∙ e) i (omega arith) (omega arith)))
     (λ missed. let z : _≡_ {A = ℕ} 0 1 = cc (bad-row right n from missed) in absurd (omega arith))
 
-all-right : (right : ℕ → Bool) (n : ℕ) → firstBad right n 0 ≡ none → (i : ℕ) → i < n → right i ≡ true
+pub all-right : (right : ℕ → Bool) (n : ℕ) → firstBad right n 0 ≡ none → (i : ℕ) → i < n → right i ≡ true
 all-right right n e i h = right-from right n 0 e i (omega arith) (omega arith)
+
+-- and the other way round
+pub none-where : (right : ℕ → Bool) (n from : ℕ) → ((i : ℕ) → from ≤ i → i < from + n → right i ≡ true) → firstBad right n from ≡ none
+none-where right zero from each = no-row right from
+none-where right (suc n) from each =
+    next-row right n from (each from (omega arith) (omega arith)) ∙ none-where right n (from + 1) (λ i low high. each i (omega arith) (omega arith))
 
 -- ---- one refusal after the other
 -- where nothing is refused, this refusal did not come, and none comes after it

@@ -35,3 +35,11 @@ pub mod Simulation
 pub mod Table
 pub mod Turns
 pub mod Whole
+pub mod Lexemes
+pub mod LexemeSizes
+pub mod TokensOf
+pub mod Spellings
+pub mod Sources
+pub mod Tiled
+pub mod TokensRight
+pub mod Longest

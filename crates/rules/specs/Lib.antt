@@ -32,3 +32,7 @@ pub mod Treelist
 pub mod SheetCases
 pub mod Cases
 pub mod PutBackCases
+pub mod Patterns
+pub mod Commands
+pub mod Tokeniser
+pub mod TokeniserCases

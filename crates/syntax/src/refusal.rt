@@ -1,4 +1,4 @@
-// The numbers of refusal of 01.
+// The numbers of refusal of 01 and 02.
 ghost use mathlib.Core.Path.{_≡_};
 ghost use Rattle.syntax.specs.Numbers.{refusals};
 
@@ -23,9 +23,11 @@ impl Refusal {
     pub const NO_ROOM: u32 = 8;
     // A sheet that can't be read.
     pub const SHEET: u32 = 9;
+    // A byte over 127 in a formula's text.
+    pub const NOT_ASCII: u32 = 11;
 
-    // All of them, in order. The contract holds each to 01's number.
-    pub fn numbers() -> [u32; 9]
+    // All of them, in order. The contract holds each to the paper's number.
+    pub fn numbers() -> [u32; 10]
         ensures { λ r. ⌜ r ≡ refusals ⌝ }
     {
         [
@@ -38,6 +40,7 @@ impl Refusal {
             Self::TOO_MANY_OPEN,
             Self::NO_ROOM,
             Self::SHEET,
+            Self::NOT_ASCII,
         ]
     }
 }

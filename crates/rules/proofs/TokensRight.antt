@@ -1,0 +1,151 @@
+-- What a text of ASCII bytes is cut into passes refusal 3: each kind is under 40, each token lies in the text, none has a shape, and a Word has at least
+-- one byte, which is a character. Assumes nothing.
+use Prim.Native.Nat.{ℕ, zero, suc, _+_, _*_, _-_, _≤_, _<_}
+use mathlib.Core.Path.{_≡_, refl, sym, ap, subst, _∙_}
+use mathlib.Core.Bool.{Bool, true, false, cond, not, _&&_, _||_, false≢true}
+use mathlib.Core.List.{List, [], _∷_}
+use mathlib.Core.Option.{Option, none}
+use native.Mathlib.Omega.{arith}
+use lib.Dec.{eqb, leb, ltb}
+use lib.ListN.{length, getD, take, drop}
+use borrow.Author.Tests.{eqb-true, eq-eqb, lt-ltb, le-leb, ltb-true, ltb-false, ne-eqb}
+use Rattle.rules.specs.Characters.{charLength, isUtf8}
+use Rattle.rules.specs.Checks.{Tables, shapeCount, firstBad, wordRight, tokenRight}
+use Rattle.rules.specs.Commands.{spellings, nameSize, kindOf, inBraces, takesName, withName}
+use Rattle.rules.specs.Limits
+use Rattle.rules.specs.Tables.{tokenCount, kindAt, startAt, lengthAt, shapeAt, part}
+use Rattle.rules.specs.Token
+use Rattle.rules.specs.Tokeniser.{Lexeme, plain, environment, command, lexeme, tokenRows}
+use Rattle.rules.proofs.Characters.{either, utf8-rest, utf8-nothing}
+use Rattle.rules.proofs.LexemeSizes.{Front, matched, named, fronts, Sized}
+use Rattle.rules.proofs.Tiled.{Stand, count, kind-is, start-is, length-is, shape-is, stand-next}
+use Rattle.rules.proofs.TokensOf.{first, size-at, tokens-at, none-left}
+use Rattle.rules.proofs.Spellings.{allKinds, kind-passes}
+
+-- ---- ASCII bytes are characters
+pub data Low : List ℕ → Type 0 where
+  no-byte : Low []
+  byte : {b : ℕ} {bytes : List ℕ} → b < 128 → Low bytes → Low (b ∷ bytes)
+
+single : (b : ℕ) (bytes : List ℕ) → b < 128 → charLength (b ∷ bytes) ≡ 1
+unfolding charLength
+single b bytes low = rw (le-leb 0 b (omega arith), le-leb b 0x7F (omega arith))
+
+pub low-utf8 : {bytes : List ℕ} → Low bytes → isUtf8 bytes ≡ true
+low-utf8 no-byte = utf8-nothing
+low-utf8 (byte {b} {bytes} low rest) =
+    let one = single b bytes low in
+    utf8-rest (b ∷ bytes) (omega (arith, one)) ∙ ap (λ (n : ℕ). isUtf8 (drop n (b ∷ bytes))) one ∙ low-utf8 rest
+
+-- ---- a token's kind
+pub record Kind (token : Lexeme) : Type 0 where
+  pub small : token .kind < Limits.kinds
+  pub word : token .kind ≡ Token.Word → 1 ≤ token .length
+
+of-name : (kind size : ℕ) → kind < Limits.kinds → (kind ≡ Token.Word → ⊥) → Kind (plain kind size)
+of-name kind size small no-word = record { small = small; word = λ is. absurd (no-word is) }
+
+of-braces : (kind size name : ℕ) → Kind (environment kind size name)
+of-braces kind size name =
+    either (eqb kind Token.ErrorBeginEnvironment) (λ t. rw t (record { small = omega arith; word = λ is. absurd (omega (arith, is)) }))
+    (λ f. rw f (record { small = omega arith; word = λ is. absurd (omega (arith, is)) }))
+
+of-command : (byte : ℕ) (left : List ℕ) → Kind (command (byte ∷ left))
+of-command b left =
+    let size = 1 + nameSize left in
+    let name = take (nameSize left) left in
+    let kind = kindOf name in
+    let braces = inBraces (drop size (b ∷ left)) in
+    let small : kind < Limits.kinds = ltb-true kind Limits.kinds (kind-passes (λ (n : ℕ). ltb n Limits.kinds) name refl) in
+    let no-word : kind ≡ Token.Word → ⊥ = λ is. false≢true (rw (eq-eqb kind Token.Word is) at (kind-passes (λ (n : ℕ). not (eqb n Token.Word)) name refl)) in
+    either (takesName kind && ltb 0 braces)
+    (λ t. rw t (of-braces kind size braces))
+    (λ f. rw f (of-name kind size small no-word))
+
+by-front : {b : ℕ} {left : List ℕ} → Front b left → Kind (lexeme (b ∷ left))
+by-front (matched kind size low some fits is) = subst Kind (sym is) (record { small = omega (arith, low); word = λ w. some })
+by-front {b} {left} (named is-backslash is) = subst Kind (sym is) (of-command b left)
+
+pub kinds : (left : List ℕ) (b : ℕ) → Kind (lexeme (b ∷ left))
+kinds left b = by-front (fronts left b)
+
+-- ---- a part of ASCII bytes
+low-drop : (n : ℕ) {bytes : List ℕ} → Low bytes → Low (drop n bytes)
+low-drop zero low = low
+low-drop (suc n) no-byte = no-byte
+low-drop (suc n) (byte b rest) = low-drop n rest
+
+low-take : (n : ℕ) {bytes : List ℕ} → Low bytes → Low (take n bytes)
+low-take zero low = no-byte
+low-take (suc n) no-byte = no-byte
+low-take (suc n) (byte b rest) = byte b (low-take n rest)
+
+-- ---- refusal 3
+module _ (t : Tables) (low : Low (t .text)) where
+  module _ {i at : ℕ} (stand : Stand (t .text) (t .tokens) i at) (here : at < length (t .text)) where
+    abbrev token : Lexeme
+    token = lexeme (drop at (t .text))
+
+    kind : Kind token
+    kind = subst (λ l. Kind (lexeme l)) (sym (first (t .text) at here)) (kinds (drop (suc at) (t .text)) (getD (t .text) at 0))
+
+    size : Sized token (length (t .text) - at)
+    size = size-at (t .text) at here
+
+    word : kindAt (t .tokens) i ≡ Token.Word → wordRight t i ≡ true
+    unfolding wordRight
+    word is =
+        let some = kind .word (sym (kind-is (t .text) stand here) ∙ is) in
+        let long = length-is (t .text) stand here in
+        rw (
+          ne-eqb (lengthAt (t .tokens) i) 0 (λ empty. omega (arith, some, long, empty)),
+          low-utf8 (low-take (lengthAt (t .tokens) i) (low-drop (startAt (t .tokens) i) low)),
+        )
+
+    row-right : tokenRight t i ≡ true
+    unfolding tokenRight
+    row-right =
+        let small = kind-is (t .text) stand here in
+        let from = start-is (t .text) stand here in
+        let long = length-is (t .text) stand here in
+        let shape = shape-is (t .text) stand here in
+        rw (
+          lt-ltb (kindAt (t .tokens) i) Limits.kinds (omega (arith, small, kind .small)),
+          le-leb (startAt (t .tokens) i + lengthAt (t .tokens) i) (length (t .text)) (omega (arith, from, long, size .within, size .fits, here)),
+          le-leb (shapeAt (t .tokens) i) (shapeCount t) (omega (arith, shape)),
+        )
+        (either (eqb (kindAt (t .tokens) i) Token.Word) (λ w. rw (w, word (eqb-true _ _ w))) (λ f. rw f))
+
+  goes-on : (n i : ℕ) → tokenRight t i ≡ true → firstBad (tokenRight t) (suc n) i ≡ firstBad (tokenRight t) n (i + 1)
+  unfolding firstBad
+  goes-on n i right = rw right
+
+  at-end : {i at : ℕ} → Stand (t .text) (t .tokens) i at → at ≡ length (t .text) → firstBad (tokenRight t) (tokenCount (t .tokens) - i) i ≡ none
+  unfolding firstBad
+  at-end {i} {at} stand end =
+      let past : length (t .text) ≤ at = omega (arith, end) in
+      let none-more : tokenCount (t .tokens) - i ≡ 0 = omega (arith, count (t .text) stand, ap length (none-left (t .text) at past)) in
+      ap (λ (n : ℕ). firstBad (tokenRight t) n i) none-more
+
+  none-bad : (most : ℕ) {i at : ℕ} → Stand (t .text) (t .tokens) i at → at ≤ length (t .text) → length (t .text) - at ≤ most
+      → firstBad (tokenRight t) (tokenCount (t .tokens) - i) i ≡ none
+  none-bad zero stand inside few = at-end stand (omega arith)
+  none-bad (suc most) {i} {at} stand inside few =
+      either (ltb at (length (t .text)))
+      (λ b.
+      let here = ltb-true at (length (t .text)) b in
+      let sized = size stand here in
+      let some = ap length (tokens-at (t .text) at here) in
+      let left : tokenCount (t .tokens) - i ≡ suc (tokenCount (t .tokens) - (i + 1)) = omega (arith, count (t .text) stand, some) in
+      ap (λ (n : ℕ). firstBad (tokenRight t) n i) left
+      ∙ goes-on (tokenCount (t .tokens) - (i + 1)) i (row-right stand here)
+      ∙ none-bad most (stand-next (t .text) stand here) (omega (arith, sized .fits)) (omega (arith, sized .some)))
+      (λ f. at-end stand (omega (arith, ltb-false at (length (t .text)) f)))
+
+-- "Word empty or not UTF-8", and the rest of refusal 3, never come of what a text of ASCII bytes is cut into, whatever shapes there are
+pub never-refused-3 : (t : Tables) → Low (t .text) → t .tokens ≡ tokenRows (t .text) → firstBad (tokenRight t) (tokenCount (t .tokens)) 0 ≡ none
+unfolding tokenRows
+never-refused-3 t low are =
+    let whole : tokenCount (t .tokens) - 0 ≡ tokenCount (t .tokens) = omega arith in
+    ap (λ (n : ℕ). firstBad (tokenRight t) n 0) (sym whole)
+    ∙ none-bad t low (length (t .text)) {i = 0} {at = 0} (record { front = []; is = are; long = refl }) (omega arith) (omega arith)
