@@ -1,4 +1,4 @@
-// The public face: the run, the questions about the rows that it gives, sheets and the listing of an answer.
+// The public face: a text's token rows, the run, the questions about the rows that it gives, sheets and the listing of an answer.
 mod clear;
 mod whole;
 
@@ -16,4 +16,6 @@ pub use questions::leaf_text;
 pub use sheets::Sections;
 pub use sheets::Sheet;
 pub use sheets::read;
+pub use tokeniser::Tokenised;
+pub use tokeniser::tokenise;
 pub use whole::run;

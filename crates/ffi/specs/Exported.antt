@@ -1,4 +1,4 @@
--- What goes over C in numbers: the run's answer, what a sheet comes to, and what a listing comes to.
+-- What goes over C in numbers: what a text comes to, the run's answer, what a sheet comes to, and what a listing comes to.
 use Prim.Native.Nat.{ℕ, _-_, _^_, min}
 use mathlib.Core.Bool.{Bool, true, false}
 use mathlib.Core.List.{List}
@@ -7,12 +7,20 @@ use mathlib.Core.Path.{_≡_}
 use lib.ListN.{length}
 use Rattle.rules.specs.Checks.{Tables}
 use Rattle.rules.specs.Run.{Answer, accepted, refusedAt, Ran}
+use Rattle.rules.specs.Tokeniser as tokeniser
 use Rattle.sheets.specs.Contract.{answerFor, numbersAfter}
 use Rattle.listings.specs.declared.listing.Listed.{Listed}
 use Rattle.listings.specs.declared.listing.Listed.the-variants as listed
 use Rattle.sheets.specs.declared.sheet.Sheet.{Sheet}
 use Rattle.sheets.specs.declared.sheet.Sheet.the-variants as sheet
 use Rattle.ffi.specs.declared.sheet.Counts.{Counts}
+
+-- ---- a text
+
+-- the count of token rows and 0, or the number of refusal and the place
+abbrev pub tokenisedIn : tokeniser.Tokenised → Bool × (ℕ × ℕ)
+tokenisedIn (tokeniser.written rows) = (true, (rows, 0))
+tokenisedIn (tokeniser.refusedAt number place) = (false, (number, place))
 
 -- ---- the run
 

@@ -1,12 +1,15 @@
 // The public face for C and Rust: numbers and slices alone. A slice is a pointer and a length there; `include/cartglaze.h` has the same functions.
 mod listing;
+mod number;
 mod sheet;
+mod tokens;
 
 ghost use mathlib.Core.Path.{_≡_};
 ghost use Rattle.rules.specs.Questions.{isDisplay, isInline, isValid, isWhole, isLeaf, leafRange};
 ghost use Rattle.rules.specs.Run.{run as runOf};
 ghost use Rattle.parser.specs.Member.{tables};
 ghost use Rattle.ffi.specs.Exported.{ranFrom};
+use crate::number::wide;
 use cartglaze::Answer;
 use cartglaze::is_display;
 use cartglaze::is_inline;
@@ -17,12 +20,7 @@ use cartglaze::leaf_range;
 use cartglaze::run;
 pub use listing::cartglaze_list;
 pub use sheet::cartglaze_read;
-
-fn wide(number: u32) -> usize
-    ensures { λ r. ⌜ r ≡ number ⌝ }
-{
-    number as usize
-}
+pub use tokens::cartglaze_tokenise;
 
 // Whether the run is accepted. Accepted: the counts of tree rows and of dropped rows; refused: the number and the place.
 #[no_mangle]

@@ -1,28 +1,20 @@
 -- The token at a place of the text, by the byte that stands there. Assumes nothing.
 use Prim.Native.Nat.{ℕ, suc, _+_, _-_, _≤_, _<_}
 use mathlib.Core.Path.{_≡_, refl, sym, ap, subst, _∙_}
-use mathlib.Core.Bool.{Bool, true, false, false≢true}
+use mathlib.Core.Bool.{Bool, true, false}
 use mathlib.Core.List.{List, [], _∷_}
 use native.Mathlib.Omega.{arith}
-use lib.Dec.{eqb}
 use lib.ListN.{length, getD, drop}
-use lib.Seq.{drop-cons, drop-drop}
-use borrow.Author.Tests.{eqb-true}
+use lib.Seq.{drop-cons}
 use Rattle.rules.specs.Patterns.{Class, run, inFront, isBreak, isBlank, isNoBreak, isWord}
 use Rattle.rules.specs.Scope.{among}
 use Rattle.rules.specs.Token
 use Rattle.rules.specs.Tokeniser.{plain, command, lexeme}
-use Rattle.rules.proofs.Characters.{either}
+use Rattle.rules.proofs.LexemeSizes.{in-front}
 use Rattle.rules.proofs.Lexemes.{at-break, at-blank, at-percent, at-dollars, at-dollar, at-new-line, at-backslash, at-single, at-word, is-alone, alones, kindAlone}
 use Rattle.tokeniser.specs.Lexemes.{Stands}
 use Rattle.tokeniser.specs.declared.lexeme.Lexeme.{Lexeme}
 use Rattle.tokeniser.proofs.Bytes.{goes-on}
-
--- a byte in front, and the bytes behind it
-front : (byte : ℕ) (left : List ℕ) → inFront (byte ∷ []) left ≡ true → left ≡ byte ∷ drop 1 left
-front byte [] h = absurd (false≢true h)
-front byte (first ∷ left) h =
-    either (eqb first byte) (λ t. ap (λ (b : ℕ). b ∷ left) (eqb-true first byte t)) (λ f. absurd (false≢true (rw f at h)))
 
 module _ (text : List ℕ) (at : ℕ) (here : at < length text) where
   abbrev byte : ℕ
@@ -45,24 +37,24 @@ module _ (text : List ℕ) (at : ℕ) (here : at < length text) where
   behind = drop (at + 1) text
 
   -- ---- a run of the class that its first byte is of
+  abbrev Ends : ℕ → Class → Type 0
+  Ends end of = end ≡ at + 1 + run of behind
+
   module _ (end : ℕ) {r : Lexeme} where
-    run-on :
-        (of : Class) (kind : ℕ)
-        → lexeme (byte ∷ behind) ≡ plain kind (run of (byte ∷ behind))
-        → end ≡ at + run of (drop at text)
+    run-on : (of : Class) (kind : ℕ) → of byte ≡ true → lexeme (byte ∷ behind) ≡ plain kind (run of (byte ∷ behind)) → Ends end of
         → Plain kind (end - at) r
         → Here r
-    run-on of kind front ends =
-        by-size (ap lexeme first ∙ front ∙ ap (λ (l : List ℕ). plain kind (run of l)) (sym first)) (omega (arith, ends))
+    run-on of kind is front ends =
+        by-size (ap lexeme first ∙ front ∙ ap (λ (l : List ℕ). plain kind (run of l)) (sym first)) (omega (arith, ends, goes-on of text at here is))
 
-    pub word : isWord byte ≡ true → end ≡ at + run isWord (drop at text) → Plain Token.Word (end - at) r → Here r
-    word is = run-on isWord Token.Word (at-word behind byte is)
+    pub word : isWord byte ≡ true → Ends end isWord → Plain Token.Word (end - at) r → Here r
+    word is = run-on isWord Token.Word is (at-word behind byte is)
 
-    pub blank : isBlank byte ≡ true → end ≡ at + run isBlank (drop at text) → Plain Token.Whitespace (end - at) r → Here r
-    blank is = run-on isBlank Token.Whitespace (at-blank behind byte is)
+    pub blank : isBlank byte ≡ true → Ends end isBlank → Plain Token.Whitespace (end - at) r → Here r
+    blank is = run-on isBlank Token.Whitespace is (at-blank behind byte is)
 
-    pub break : isBreak byte ≡ true → end ≡ at + run isBreak (drop at text) → Plain Token.LineBreak (end - at) r → Here r
-    break is = run-on isBreak Token.LineBreak (at-break behind byte is)
+    pub break : isBreak byte ≡ true → Ends end isBreak → Plain Token.LineBreak (end - at) r → Here r
+    break is = run-on isBreak Token.LineBreak is (at-break behind byte is)
 
   -- ---- a byte that is known
   known : (k : ℕ) → byte ≡ k → drop at text ≡ k ∷ behind
@@ -73,7 +65,7 @@ module _ (text : List ℕ) (at : ℕ) (here : at < length text) where
 
   -- the byte stands there twice
   twice : (k : ℕ) → byte ≡ k → inFront (k ∷ []) behind ≡ true → drop at text ≡ k ∷ k ∷ drop 1 behind
-  twice k is again = known k is ∙ ap (λ (l : List ℕ). k ∷ l) (front k behind again)
+  twice k is again = known k is ∙ ap (λ (l : List ℕ). k ∷ l) (in-front k behind again)
 
   two : at + 1 + 1 - at ≡ 2
   two = omega arith

@@ -58,10 +58,11 @@ pub fn has(bits: Bits, byte: u8) -> bool
     requires { ⌜ byte < 128 ⌝ }
     ensures { λ r. ⌜ r ≡ digit bits byte ⌝ }
 {
+    let place = byte % 64;
     if byte < 64 {
-        return (bits.low >> byte) % 2 == 1;
+        return (bits.low >> place) % 2 == 1;
     }
-    (bits.high >> (byte - 64)) % 2 == 1
+    (bits.high >> place) % 2 == 1
 }
 
 // Where the bytes of a class end that begin at a place.

@@ -140,17 +140,18 @@ pub fn lexeme_at(text: &[u8], at: usize) -> Lexeme
     ensures { λ r. ⌜ Stands at (lexeme (drop at (now (text .entry)))) r ⌝ }
 {
     let byte = text[at];
+    let next = at + 1;
     let word = Class::Word.bits();
     if has(word, byte) {
-        return plain(Token::WORD, at, run_end(text, at, word));
+        return plain(Token::WORD, at, run_end(text, next, word));
     }
     let blank = Class::Blank.bits();
     if has(blank, byte) {
-        return plain(Token::WHITESPACE, at, run_end(text, at, blank));
+        return plain(Token::WHITESPACE, at, run_end(text, next, blank));
     }
     let breaks = Class::Break.bits();
     if has(breaks, byte) {
-        return plain(Token::LINE_BREAK, at, run_end(text, at, breaks));
+        return plain(Token::LINE_BREAK, at, run_end(text, next, breaks));
     }
     mark(text, at)
 }

@@ -1,4 +1,5 @@
 // The whole text: what is refused, how many tokens there are, and their rows.
+ghost use mathlib.Core.Bool.{true, false, cond};
 ghost use mathlib.Core.Path.{_≡_};
 ghost use mathlib.Core.List.{[], _∷_};
 ghost use Prim.Native.Nat.{_+_, _*_, _≤_, _<_, _^_};
@@ -50,48 +51,16 @@ fn first_high(text: &[u8]) -> usize
     at
 }
 
-// How many tokens there are.
-fn count(text: &[u8]) -> usize
-    requires { ⌜ Ascii (now text) ⌝ }
-    ensures { λ r. ⌜ r ≡ length (tokensOf (now (text .entry))) ⌝ }
+// A token's row is written over what stands there; where tokens are only counted, nothing is.
+fn put(rows: &mut [u32], row: usize, token: Lexeme, counting: bool)
+    requires { ⌜ (counting ≡ false → row * tokenWidth + tokenWidth ≤ length (now rows)) × (token .start < 2 ^ 32) × (token .length < 2 ^ 32) ⌝ }
+    ensures { λ _.
+        let numbers = token .kind ∷ token .start ∷ token .length ∷ 0 ∷ [] in
+        ⌜ now (rows .exit) ≡ cond counting (now (rows .entry)) (written tokenWidth row numbers (now (rows .entry))) ⌝ }
 {
-    let mut at = 0;
-    let mut tokens = 0;
-    while at < text.len() {
-        let token = lexeme_at(text, at);
-        at = token.end;
-        tokens += 1;
+    if counting {
+        return;
     }
-    tokens
-}
-
-// Whether the text, its tokens and their rows keep to the limits and to the numbers that are lent. There are no more tokens than bytes, so that they
-// need not be counted where there is room for as many as bytes.
-fn fits(text: &[u8], room: usize) -> bool
-    requires { ⌜ Ascii (now text) ⌝ }
-    ensures { λ r. ⌜ r ≡ fits (now (text .entry)) room ⌝ }
-{
-    if Limits::TEXT < text.len() {
-        return false;
-    }
-    let rows = room / Limits::TOKEN_WIDTH;
-    if text.len() <= Limits::TOKENS {
-        if text.len() <= rows {
-            return true;
-        }
-    }
-    let tokens = count(text);
-    if Limits::TOKENS < tokens {
-        return false;
-    }
-    tokens <= rows
-}
-
-// A token's row is written over what stands there.
-fn put(rows: &mut [u32], row: usize, token: Lexeme)
-    requires { ⌜ (row * tokenWidth + tokenWidth ≤ length (now rows)) × (token .start < 2 ^ 32) × (token .length < 2 ^ 32) ⌝ }
-    ensures { λ _. ⌜ now (rows .exit) ≡ written tokenWidth row (token .kind ∷ token .start ∷ token .length ∷ 0 ∷ []) (now (rows .entry)) ⌝ }
-{
     let at = row * Limits::TOKEN_WIDTH;
     rows[at] = token.kind;
     rows[at + 1] = token.start as u32;
@@ -99,20 +68,47 @@ fn put(rows: &mut [u32], row: usize, token: Lexeme)
     rows[at + 3] = 0;
 }
 
-// The rows of all tokens, into a buffer that has room for them, and how many they are.
-fn write(text: &[u8], rows: &mut [u32]) -> usize
-    requires { ⌜ Ascii (now text) × (length (now text) ≤ mostText) × (length (tokensOf (now text)) * tokenWidth ≤ length (now rows)) ⌝ }
-    ensures { λ r. ⌜ (r ≡ length (tokensOf (now (text .entry)))) × (now (rows .exit) ≡ over (tokenRows (now (text .entry))) (now (rows .entry))) ⌝ }
+// The text is cut into tokens: how many they are, and unless they are only counted, their rows into a buffer that has room for them.
+fn cut(text: &[u8], rows: &mut [u32], counting: bool) -> usize
+    requires { ⌜ Ascii (now text)
+        × (length (now text) ≤ mostText)
+        × (counting ≡ false → length (tokensOf (now text)) * tokenWidth ≤ length (now rows)) ⌝ }
+    ensures { λ r.
+        let before = now (rows .entry) in
+        ⌜ (r ≡ length (tokensOf (now (text .entry))))
+        × (now (rows .exit) ≡ cond counting before (over (tokenRows (now (text .entry))) before)) ⌝ }
 {
     let mut at = 0;
     let mut row = 0;
     while at < text.len() {
         let token = lexeme_at(text, at);
-        put(rows, row, token);
+        put(rows, row, token, counting);
         at = token.end;
         row += 1;
     }
     row
+}
+
+// Whether the text, its tokens and their rows keep to the limits and to the buffer that is lent. There are no more tokens than bytes, so that they
+// need not be counted where there is room for as many as bytes.
+fn fits(text: &[u8], rows: &mut [u32]) -> bool
+    requires { ⌜ Ascii (now text) ⌝ }
+    ensures { λ r. ⌜ (r ≡ fits (now (text .entry)) (length (now (rows .entry)))) × (now (rows .exit) ≡ now (rows .entry)) ⌝ }
+{
+    if Limits::TEXT < text.len() {
+        return false;
+    }
+    let room = rows.len() / Limits::TOKEN_WIDTH;
+    if text.len() <= Limits::TOKENS {
+        if text.len() <= room {
+            return true;
+        }
+    }
+    let tokens = cut(text, rows, true);
+    if Limits::TOKENS < tokens {
+        return false;
+    }
+    tokens <= room
 }
 
 // The token rows of a text. Nothing is asked of its bytes, nor of the buffer's length.
@@ -123,8 +119,8 @@ pub fn tokenise(text: &[u8], rows: &mut [u32]) -> Tokenised
     if high < text.len() {
         return Tokenised::Refused(Refusal::NOT_ASCII, high);
     }
-    if fits(text, rows.len()) {
-        return Tokenised::Written(write(text, rows));
+    if fits(text, rows) {
+        return Tokenised::Written(cut(text, rows, false));
     }
     Tokenised::Refused(Refusal::LIMIT, 0)
 }

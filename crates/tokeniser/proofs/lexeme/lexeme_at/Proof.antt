@@ -21,7 +21,7 @@ returns : tie.Need-returns
 returns c =
     let run = c .before in
     let asked = plain→has c in
-    let start = plain→entry c in
+    let start = plain→start c in
     let tells = asked .before .bits .ensures in
     word _ _ (start .pre .0) _ (sym (tells .byte _ (low start)) ∙ sym (asked .has .ensures) ∙ run .before .if1 .taken)
     (run .run-end .ensures .is _ tells) (c .plain .ensures)
@@ -30,7 +30,7 @@ returns-2 : tie.Need-returns-2
 returns-2 c =
     let run = c .before in
     let asked = plain2→has2 c in
-    let start = plain2→entry c in
+    let start = plain2→start c in
     let tells = asked .before .bits2 .ensures in
     blank _ _ (start .pre .0) _ (sym (tells .byte _ (low start)) ∙ sym (asked .has2 .ensures) ∙ run .before .if2 .taken)
     (run .run-end2 .ensures .is _ tells) (c .plain2 .ensures)
@@ -39,14 +39,14 @@ returns-3 : tie.Need-returns-3
 returns-3 c =
     let run = c .before in
     let asked = plain3→has3 c in
-    let start = plain3→entry c in
+    let start = plain3→start c in
     let tells = asked .before .bits3 .ensures in
     break _ _ (start .pre .0) _ (sym (tells .byte _ (low start)) ∙ sym (asked .has3 .ensures) ∙ run .before .if3 .taken)
     (run .run-end3 .ensures .is _ tells) (c .plain3 .ensures)
 
 mark-requires : tie.Need-mark-requires
 mark-requires c κs =
-    let start = else3→entry c in
+    let start = else3→start c in
     let first = else3→has c in
     let second = else3→has2 c in
     let third = c .before in
@@ -60,18 +60,19 @@ lexeme-at-spec =
     tie.close
     (tie.spec
     (λ c. search needs)
+    (λ c. search needs)
     (λ c κs. search needs)
-    (λ c κs. low (bits→entry c))
+    (λ c κs. low (bits→start c))
     (λ c κs. search needs)
     (λ c κs. omega (arith, c .run-end .ensures .is _ (run-end→bits c .bits .ensures)))
     returns
     (λ c κs. search needs)
-    (λ c κs. low (bits2→entry c))
+    (λ c κs. low (bits2→start c))
     (λ c κs. search needs)
     (λ c κs. omega (arith, c .run-end2 .ensures .is _ (run-end2→bits2 c .bits2 .ensures)))
     returns-2
     (λ c κs. search needs)
-    (λ c κs. low (bits3→entry c))
+    (λ c κs. low (bits3→start c))
     (λ c κs. search needs)
     (λ c κs. omega (arith, c .run-end3 .ensures .is _ (run-end3→bits3 c .bits3 .ensures)))
     returns-3

@@ -1,7 +1,8 @@
--- `write` meets its contract: the rows written so far and those of what is left are all, and behind them the buffer is as it was. Assumes nothing.
+-- `cut` meets its contract: the tokens counted so far and those of what is left are all, and so are their rows. Assumes nothing.
 use Prim.Native.Nat.{ℕ, _+_, _-_, _*_, _≤_, _<_}
 use mathlib.Core.List.{List}
-use mathlib.Core.Path.{_∙_}
+use mathlib.Core.Bool.{false}
+use mathlib.Core.Path.{_≡_}
 use borrow.Author.Needs.{needs}
 use native.Mathlib.Omega.{arith}
 use lib.ListN.{length, drop}
@@ -10,21 +11,24 @@ use Rattle.rules.specs.Tokeniser.{lexeme, tokensOf}
 use Rattle.rules.proofs.LexemeSizes.{Sized}
 use Rattle.rules.proofs.TokensOf.{size-at}
 use Rattle.tokeniser.specs.Bytes.{Ascii}
-use Rattle.tokeniser.proofs.Cutting.{Wrote, nothing-yet, room, one-row, all-counted, all-written}
-use Rattle.tokeniser.proofs.rows.write.Statement.{statement}
-use Rattle.tokeniser.proofs.rows.write.Tie as tie
+use Rattle.tokeniser.proofs.Cutting.{Went, none-yet, room, goes-on, all-counted, at-the-end}
+use Rattle.tokeniser.proofs.rows.cut.Statement.{statement}
+use Rattle.tokeniser.proofs.rows.cut.Tie as tie
 mod At
 use At.*
 
 abbrev Inv-loop : tie.InvT-loop
-Inv-loop text rows₀ at₀ row₀ rows at row =
-    Wrote text rows₀ rows at row × Ascii text × (length text ≤ mostText) × (length (tokensOf text) * tokenWidth ≤ length rows₀)
+Inv-loop text rows₀ counting at₀ row₀ rows at row =
+    Went text counting rows₀ rows at row
+    × Ascii text
+    × (length text ≤ mostText)
+    × (counting ≡ false → length (tokensOf text) * tokenWidth ≤ length rows₀)
 
 abbrev μ-loop : tie.MeasureT-loop
-μ-loop text rows₀ at₀ row₀ rows at row = length text - at
+μ-loop text rows₀ counting at₀ row₀ rows at row = length text - at
 
 loop-holds : tie.Need-loop-holds Inv-loop μ-loop
-loop-holds c = let pre = c .before .before .pre in (nothing-yet _ _, pre .0, pre .1, pre .2)
+loop-holds c = let pre = c .before .before .pre in (none-yet _ _ _, pre .0, pre .1, pre .2)
 
 lexeme-at-requires : tie.Need-lexeme-at-requires Inv-loop μ-loop
 lexeme-at-requires c κs = (c .loop-test .taken, c .before .loop .inv .1)
@@ -43,16 +47,14 @@ module _ (c : tie.After-lexeme-at Inv-loop μ-loop) where
   size : Sized (lexeme (drop (looped .loop .at) text)) (length text - looped .loop .at)
   size = size-at text (looped .loop .at) here
 
-  row-fits : looped .loop .row * tokenWidth + tokenWidth ≤ length (looped .loop .rows)
-  row-fits = room text (looped .loop .inv .0) here (looped .loop .inv .3)
-
 put-requires : tie.Need-put-requires Inv-loop μ-loop
 put-requires c κs =
     let found = c .before in
     let stands = found .lexeme-at .ensures in
     let fine = size found in
-    let short = looped found .loop .inv .2 in (
-      row-fits found,
+    let inv = looped found .loop .inv in
+    let short = inv .2 in (
+      λ is. room (text found) (inv .0) (here found) (inv .3 is),
       omega (arith, stands .start, fine .fits, fine .within, short, here found),
       omega (arith, stands .long, fine .fits, fine .within, short, here found),
     )
@@ -73,7 +75,7 @@ loop-again c =
     let found = slice-known2→lexeme-at c in
     let inv = looped found .loop .inv in
     let put = slice-known2→put c in (
-      one-row (text found) (inv .0) _ (here found) (found .lexeme-at .ensures) (row-fits found) (put .put .ensures) (put .put .kept .0),
+      goes-on (text found) (inv .0) _ (here found) (found .lexeme-at .ensures) (inv .3) (put .put .ensures) (put .put .kept .0),
       inv .1,
       inv .2,
       inv .3,
@@ -85,12 +87,10 @@ same-length c = c .before .loop .inv .0 .long
 returns : tie.Need-returns Inv-loop μ-loop
 returns c =
     let inv = c .before .loop .inv in
-    let wrote = inv .0 in
-    let text = c .before .before .before .before .args .text .now in (
-      all-counted text (wrote .counted) (c .loop-test .left),
-      all-written text wrote (c .loop-test .left) (omega (arith, wrote .counted .is, wrote .long, inv .3)),
-    )
+    let text = c .before .before .before .before .args .text .now in
+    let past = c .loop-test .left in
+    (all-counted text (inv .0 .counted) past, at-the-end text (inv .0) past (inv .3))
 
-pub write-spec : {M : Type 1} → statement M
-write-spec =
+pub cut-spec : {M : Type 1} → statement M
+cut-spec =
     tie.close (tie.spec Inv-loop μ-loop loop-holds lexeme-at-requires put-requires add-row loop-less loop-again same-length returns)
