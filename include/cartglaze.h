@@ -1,5 +1,5 @@
-/* Cartglaze for C: mitex's parser over tables of numbers, sheets that hold such tables, and the listing of an answer. The functions of crates/ffi/src
- * (run and questions in lib.rt, sheet.rt, listing.rt), with what each promises.
+/* Cartglaze for C: a formula's text into token rows, mitex's parser over tables of numbers, sheets that hold such tables, and the listing of an
+ * answer. The functions of crates/ffi/src (run and questions in lib.rt, tokens.rt, sheet.rt, listing.rt), with what each promises.
  *
  * Link target/staticlib/libffi.a, by that path (another library has the name libffi). `rt staticlib ffi` writes it.
  *
@@ -7,8 +7,9 @@
  *   - A pointer with a length behind it points to so many elements that are there, aligned as their type is. It is not null, even where the length
  *     is 0.
  *   - A pointer to a single result (`size_t *`) is not null, and is aligned too.
- *   - What is written to overlaps nothing else that is passed: `tree`, `dropped`, `numbers`, `out` and each single result.
- * Nothing more: any bytes may stand in a sheet, and any numbers in the tables and in the rows. The contracts are proved for callers that keep to
+ *   - What is written to overlaps nothing else that is passed: `tokens` of cartglaze_tokenise, `tree`, `dropped`, `numbers`, `out` and each single
+ *     result.
+ * Nothing more: any bytes may stand in a text and in a sheet, and any numbers in the tables and in the rows. The contracts are proved for callers that keep to
  * this.
  *
  * Stack: a run takes more the more nodes are open, and no more than 128 ever are. Formulas with so many were read on a thread with a stack of
@@ -36,6 +37,23 @@
 #ifdef __cplusplus
 extern "C" {
 #endif
+
+/* So many numbers make a token row. */
+#define CARTGLAZE_TOKEN_ROW 4
+
+/* The token rows of a formula's text. It always returns, and says whether it has written them.
+ *
+ * True: *first is the count of token rows, and *second is 0. The rows stand at the beginning of `tokens`, and every later element is as it was. Their
+ * shape numbers are 0: no command takes arguments until the caller sets the number of its shape.
+ * False: *first is the number of refusal and *second its place, counted from 0. `tokens` is as it was.
+ *   11  a byte over 127, be the text ever so long                       its offset, of the first one
+ *   1   more than 65,535 bytes, more than 16,384 tokens, or fewer than   0
+ *       CARTGLAZE_TOKEN_ROW numbers lent for each token
+ * There are no more tokens than bytes, so CARTGLAZE_TOKEN_ROW numbers a byte are always enough, and CARTGLAZE_TOKEN_ROW * 16384 are too.
+ *
+ * A row's text is its part of `text`; the text of \begin{name} and \end{name} (27 and 28) is the name alone. What it gives of a text is never
+ * refused 3 by cartglaze_run with the same text. The same text and length of `tokens` always give the same result. */
+bool cartglaze_tokenise(const uint8_t *text, size_t text_length, uint32_t *tokens, size_t tokens_length, size_t *first, size_t *second);
 
 /* So many numbers make a tree row. A tree buffer is so many rows: its length divided by this, rounded down. What is left over behind the last whole
  * row is no row. */

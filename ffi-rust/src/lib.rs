@@ -9,6 +9,14 @@
 /// The exported functions, as `include/cartglaze.h` has them: a slice is a pointer and a length.
 mod raw {
     extern "C" {
+        pub fn cartglaze_tokenise(
+            text: *const u8,
+            text_length: usize,
+            tokens: *mut u32,
+            tokens_length: usize,
+            first: *mut usize,
+            second: *mut usize,
+        ) -> bool;
         pub fn cartglaze_run(
             text: *const u8,
             text_length: usize,
@@ -55,6 +63,40 @@ mod raw {
             out_length: usize,
             length: *mut usize,
         ) -> bool;
+    }
+}
+
+/// So many numbers make a token row: kind, start, length, shape number.
+pub const TOKEN_ROW: usize = 4;
+
+/// What a text comes to.
+#[derive(Clone, Copy, Debug, PartialEq, Eq)]
+pub enum Tokenised {
+    /// So many token rows stand at the beginning of the lent numbers, with shape numbers 0; later elements are as they were.
+    Written {
+        /// The count of token rows.
+        tokens: usize,
+    },
+    /// 11: a byte over 127, at this place. 1: a limit is passed, or too few numbers were lent; the place is 0. The lent numbers are as they were.
+    Refused {
+        /// The number of refusal.
+        number: usize,
+        /// Its place, counted from 0.
+        place: usize,
+    },
+}
+
+/// The token rows of a formula's text, which need [`TOKEN_ROW`] numbers each. There are no more tokens than bytes.
+pub fn tokenise(text: &[u8], tokens: &mut [u32]) -> Tokenised {
+    let (mut first, mut second) = (0, 0);
+    // SAFETY: each pointer with its length is a slice that lives through the call, and what is written to is borrowed `mut`.
+    let written = unsafe {
+        raw::cartglaze_tokenise(text.as_ptr(), text.len(), tokens.as_mut_ptr(), tokens.len(), &mut first, &mut second)
+    };
+    if written {
+        Tokenised::Written { tokens: first }
+    } else {
+        Tokenised::Refused { number: first, place: second }
     }
 }
 

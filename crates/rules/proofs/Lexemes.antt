@@ -1,5 +1,5 @@
--- The token in front, by its first byte. Where one pattern matches and no other does, it is the longest; each pattern begins with a byte that no other
--- begins with, but for the backslash. Assumes nothing.
+-- The token in front, by its first byte. Where one pattern matches and no other does, it is the longest; each pattern begins with a byte that no
+-- other begins with, but for the backslash. Assumes nothing.
 use Prim.Native.Nat.{ℕ, suc, _+_, _<_, _≤_}
 use mathlib.Core.Path.{_≡_, refl, sym, ap, subst, _∙_}
 use mathlib.Core.Bool.{Bool, true, false, cond, _&&_, _||_, false≢true}
@@ -91,9 +91,9 @@ each P (k ∷ keys) byte (k′ by this also others) h =
 abbrev pub singles : List (ℕ × ℕ)
 singles =
     (0x7B, Token.LeftCurly) ∷ (0x7D, Token.RightCurly) ∷ (0x2C, Token.Comma) ∷ (0x5B, Token.LeftBracket) ∷ (0x5D, Token.RightBracket)
-    ∷ (0x28, Token.LeftParen) ∷ (0x29, Token.RightParen) ∷ (0x7E, Token.Tilde) ∷ (0x2F, Token.Slash) ∷ (0x5F, Token.Underscore) ∷ (0x2A, Token.Asterisk)
-    ∷ (0x40, Token.AtSign) ∷ (0x27, Token.Apostrophe) ∷ (0x22, Token.Ditto) ∷ (0x3B, Token.Semicolon) ∷ (0x26, Token.Ampersand) ∷ (0x5E, Token.Caret)
-    ∷ (0x23, Token.Hash) ∷ []
+    ∷ (0x28, Token.LeftParen) ∷ (0x29, Token.RightParen) ∷ (0x7E, Token.Tilde) ∷ (0x2F, Token.Slash) ∷ (0x5F, Token.Underscore)
+    ∷ (0x2A, Token.Asterisk) ∷ (0x40, Token.AtSign) ∷ (0x27, Token.Apostrophe) ∷ (0x22, Token.Ditto) ∷ (0x3B, Token.Semicolon)
+    ∷ (0x26, Token.Ampersand) ∷ (0x5E, Token.Caret) ∷ (0x23, Token.Hash) ∷ []
 
 abbrev pub alones : List ℕ
 alones = map (λ (s : ℕ × ℕ). s .0) singles

@@ -24,7 +24,8 @@ pub record Sourced (token : Lexeme) (left : List ℕ) : Type 0 where
   pub size : token .size ≡ token .lead + token .length + length (closing (token .kind))
 
 -- ---- a token that is no \begin or \end with its name
-of-plain : (kind size : ℕ) (left : List ℕ) → eqb kind Token.BeginEnvironment ≡ false → eqb kind Token.EndEnvironment ≡ false → Sourced (plain kind size) left
+of-plain : (kind size : ℕ) (left : List ℕ) → eqb kind Token.BeginEnvironment ≡ false → eqb kind Token.EndEnvironment ≡ false
+    → Sourced (plain kind size) left
 of-plain kind size left no-begin no-end =
     record {
       is = rw (no-begin, no-end) (sym (append-nil (take size left)));
@@ -105,12 +106,15 @@ module _ (left : List ℕ) where
 
   -- a name's kind is never 27 or 28
   other-than : (k : ℕ) → allKinds (λ (n : ℕ). not (eqb n k)) spellings ≡ true → eqb kind k ≡ false
-  other-than k test = either (eqb kind k) (λ t. absurd (false≢true (rw t at (kind-passes (λ (n : ℕ). not (eqb n k)) (take (nameSize left) left) test)))) (λ f. f)
+  other-than k test =
+      let other = kind-passes (λ (n : ℕ). not (eqb n k)) (take (nameSize left) left) test in
+      either (eqb kind k) (λ t. absurd (false≢true (rw t at other))) (λ f. f)
 
   bare : Sourced (plain kind size) All
   bare = of-plain kind size All (other-than Token.BeginEnvironment refl) (other-than Token.EndEnvironment refl)
 
-  by-test : (b : Bool) → (takesName kind && ltb 0 name) ≡ b → Sourced (cond b (environment kind size name) (plain kind size)) All → Sourced (command All) All
+  by-test : (b : Bool) → (takesName kind && ltb 0 name) ≡ b → Sourced (cond b (environment kind size name) (plain kind size)) All
+      → Sourced (command All) All
   by-test b is = subst (λ t. Sourced (cond t (environment kind size name) (plain kind size)) All) (sym is)
 
   of-command : Sourced (command All) All
@@ -136,7 +140,8 @@ module _ (left : List ℕ) where
 by-front : {byte : ℕ} {left : List ℕ} → Front byte left → Sourced (lexeme (byte ∷ left)) (byte ∷ left)
 by-front {byte} {left} (matched kind size low some fits is) =
     subst (λ t. Sourced t (byte ∷ left)) (sym is)
-    (of-plain kind size (byte ∷ left) (ne-eqb kind Token.BeginEnvironment (λ e. omega (arith, low, e))) (ne-eqb kind Token.EndEnvironment (λ e. omega (arith, low, e))))
+    (of-plain kind size (byte ∷ left) (ne-eqb kind Token.BeginEnvironment (λ e. omega (arith, low, e)))
+    (ne-eqb kind Token.EndEnvironment (λ e. omega (arith, low, e))))
 by-front {byte} {left} (named is-backslash is) =
     subst (λ t. Sourced t (byte ∷ left)) (sym is) (subst (λ b. Sourced (command (b ∷ left)) (b ∷ left)) (sym is-backslash) (of-command left))
 

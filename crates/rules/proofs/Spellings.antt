@@ -47,9 +47,13 @@ kind-passes test name = passes test spellings name
 -- ---- every entry of a kind has these bytes: so has a name of that kind
 abbrev allSpelled : ℕ → List ℕ → List (String × ℕ) → Bool
 allSpelled kind these [] = not (eqb Token.Generic kind)
-allSpelled kind these (entry ∷ more) = cond (eqb (entry .1) kind) (cond (spelled these (bytes (entry .0))) (allSpelled kind these more) false) (allSpelled kind these more)
+allSpelled kind these (entry ∷ more) =
+    let rest = allSpelled kind these more in
+    cond (eqb (entry .1) kind) (cond (spelled these (bytes (entry .0))) rest false) rest
 
-only-these : (kind : ℕ) (these : List ℕ) (entries : List (String × ℕ)) (name : List ℕ) → allSpelled kind these entries ≡ true → lookUp entries name ≡ kind → these ≡ name
+only-these : (kind : ℕ) (these : List ℕ) (entries : List (String × ℕ)) (name : List ℕ) → allSpelled kind these entries ≡ true
+    → lookUp entries name ≡ kind
+    → these ≡ name
 only-these kind these [] name h is = absurd (false≢true (rw (eq-eqb Token.Generic kind is) at h))
 only-these kind these (entry ∷ more) name h is =
     either (spelled (bytes (entry .0)) name)

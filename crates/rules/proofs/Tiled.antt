@@ -1,5 +1,5 @@
--- The source ranges of the tokens of a text tile it, and joined they are the text: at each place what is left is the source text of the token there, and
--- then what is left behind it. Assumes nothing.
+-- The source ranges of the tokens of a text tile it, and joined they are the text: at each place what is left is the source text of the token there,
+-- and then what is left behind it. Assumes nothing.
 use Prim.Native.Nat.{ℕ, zero, suc, _+_, _*_, _-_, _/_, _≤_, _<_}
 use mathlib.Core.Path.{_≡_, refl, sym, ap, ap₂, subst, _∙_}
 use mathlib.Core.List.{List, [], _∷_, _++_, append-assoc}

@@ -1,5 +1,5 @@
--- What a text of ASCII bytes is cut into passes refusal 3: each kind is under 40, each token lies in the text, none has a shape, and a Word has at least
--- one byte, which is a character. Assumes nothing.
+-- What a text of ASCII bytes is cut into passes refusal 3: each kind is under 40, each token lies in the text, none has a shape, and a Word has at
+-- least one byte, which is a character. Assumes nothing.
 use Prim.Native.Nat.{ℕ, zero, suc, _+_, _*_, _-_, _≤_, _<_}
 use mathlib.Core.Path.{_≡_, refl, sym, ap, subst, _∙_}
 use mathlib.Core.Bool.{Bool, true, false, cond, not, _&&_, _||_, false≢true}
@@ -57,7 +57,8 @@ of-command b left =
     let kind = kindOf name in
     let braces = inBraces (drop size (b ∷ left)) in
     let small : kind < Limits.kinds = ltb-true kind Limits.kinds (kind-passes (λ (n : ℕ). ltb n Limits.kinds) name refl) in
-    let no-word : kind ≡ Token.Word → ⊥ = λ is. false≢true (rw (eq-eqb kind Token.Word is) at (kind-passes (λ (n : ℕ). not (eqb n Token.Word)) name refl)) in
+    let other = kind-passes (λ (n : ℕ). not (eqb n Token.Word)) name refl in
+    let no-word : kind ≡ Token.Word → ⊥ = λ is. false≢true (rw (eq-eqb kind Token.Word is) at other) in
     either (takesName kind && ltb 0 braces)
     (λ t. rw t (of-braces kind size braces))
     (λ f. rw f (of-name kind size small no-word))

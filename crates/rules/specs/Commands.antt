@@ -1,5 +1,5 @@
--- Command names, which are ours and not the Rust's (02, #103): "Command names are added by us: a backslash with the longest run of letters, else with one
--- byte, else alone and then Error."
+-- Command names, which are ours and not the Rust's (02, #103): "Command names are added by us: a backslash with the longest run of letters, else
+-- with one byte, else alone and then Error."
 use Prim.Native.Nat.{ℕ, _+_}
 use Prim.Native.String.{String}
 use mathlib.Core.Bool.{Bool, cond, _&&_, _||_}

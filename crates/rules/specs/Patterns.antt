@@ -1,5 +1,5 @@
--- The patterns of token.rs, and which of them a token is: "the longest-match rules and priorities shown in token.rs" (02, #103). For each pattern it is
--- said how long a prefix of what is left it matches; 0 is no match.
+-- The patterns of token.rs, and which of them a token is: "the longest-match rules and priorities shown in token.rs" (02, #103). For each pattern it
+-- is said how long a prefix of what is left it matches; 0 is no match.
 use Prim.Native.Nat.{ℕ, suc, _+_}
 use mathlib.Core.Bool.{Bool, true, false, not, cond, _&&_, _||_}
 use Prim.Native.String.{String}

@@ -15,8 +15,8 @@ use Rattle.rules.specs.Run.{over}
 use Rattle.rules.specs.Tables.{tokenCount, kindAt, startAt, lengthAt, part}
 use Rattle.rules.specs.Token
 
--- a token in front of what is left: how many bytes its source range has, and which of them are its text. "Every byte lies in exactly one token's source
--- range, its text or, for 27 and 28, backslash to `}`."
+-- a token in front of what is left: how many bytes its source range has, and which of them are its text. "Every byte lies in exactly one token's
+-- source range, its text or, for 27 and 28, backslash to `}`."
 pub record Lexeme : Type 0 where
   pub kind : ℕ
   pub size : ℕ

@@ -28,23 +28,24 @@ cases =
     ∷ (Generic of "\\@" ∷ Word of "ifstar" ∷ [])
     -- "`\begin{name}` and `\end{name}`, the name being letters or `*`, one or more, give kinds 27 and 28"
     ∷ (between "\\begin{" ∷ BeginEnvironment of "a*" ∷ between "}" ∷ Word of "b" ∷ [])
-    ∷ (between "\\begin{" ∷ BeginEnvironment of "*" ∷ between "}" ∷ between "\\end{" ∷ EndEnvironment of "*a*b" ∷ between "}" ∷ [])
+    ∷ (between "\\begin{" ∷ BeginEnvironment of "*" ∷ between "}" ∷ between "\\end{" ∷ EndEnvironment of "a" ∷ between "}" ∷ [])
+    ∷ (between "\\begin{" ∷ BeginEnvironment of "*a*b" ∷ between "}" ∷ [])
     -- "without such braces they are 31 and 32"
     ∷ (ErrorBeginEnvironment of "\\begin" ∷ LeftCurly of "{" ∷ RightCurly of "}" ∷ [])
     ∷ (ErrorBeginEnvironment of "\\begin" ∷ LeftCurly of "{" ∷ Word of "a" ∷ Whitespace of " " ∷ Word of "b" ∷ RightCurly of "}" ∷ [])
-    ∷ (ErrorEndEnvironment of "\\end" ∷ Whitespace of " " ∷ LeftCurly of "{" ∷ Word of "a" ∷ RightCurly of "}" ∷ [])
+    ∷ (ErrorBeginEnvironment of "\\begin" ∷ Whitespace of " " ∷ LeftCurly of "{" ∷ Word of "a" ∷ RightCurly of "}" ∷ [])
     ∷ (ErrorBeginEnvironment of "\\begin" ∷ LeftCurly of "{" ∷ Word of "a1" ∷ RightCurly of "}" ∷ [])
     ∷ (ErrorBeginEnvironment of "\\begin" ∷ LeftCurly of "{" ∷ Word of "a" ∷ [])
     ∷ (ErrorBeginEnvironment of "\\begin" ∷ LeftBracket of "[" ∷ Word of "a" ∷ RightBracket of "]" ∷ [])
-    ∷ (ErrorEndEnvironment of "\\end" ∷ [])
+    ∷ (ErrorEndEnvironment of "\\end" ∷ LeftCurly of "{" ∷ RightCurly of "}" ∷ ErrorEndEnvironment of "\\end" ∷ [])
     ∷ (Generic of "\\beginx" ∷ Generic of "\\Begin" ∷ [])
     -- "`\(` and `\[` begin math, `\)` and `\]` end it"
     ∷ (BeginMath of "\\(" ∷ EndMath of "\\)" ∷ BeginMath of "\\[" ∷ EndMath of "\\]" ∷ [])
     -- "`\iffalse`, `\iftypst`, `\else`, `\fi`, `\left`, `\right` and the other spellings of the `IfCommandName` cases in lower case get their kinds"
     ∷ (IfFalse of "\\iffalse" ∷ IfTypst of "\\iftypst" ∷ Else of "\\else" ∷ EndIf of "\\fi" ∷ Left of "\\left" ∷ Right of "\\right" ∷ [])
-    ∷ (If of "\\if" ∷ If of "\\iftrue" ∷ If of "\\ifcase" ∷ If of "\\ifnum" ∷ If of "\\ifcat" ∷ If of "\\ifx" ∷ If of "\\ifvoid" ∷ If of "\\ifhbox" ∷ [])
-    ∷ (If of "\\ifvbox" ∷ If of "\\ifhmode" ∷ If of "\\ifmmode" ∷ If of "\\ifvmode" ∷ If of "\\ifinner" ∷ If of "\\ifdim" ∷ If of "\\ifeof" ∷ [])
-    ∷ (If of "\\ifstar" ∷ Generic of "\\iffalsex" ∷ Generic of "\\IF" ∷ Generic of "\\lefty" ∷ [])
+    ∷ (If of "\\if" ∷ If of "\\iftrue" ∷ If of "\\ifcase" ∷ If of "\\ifnum" ∷ If of "\\ifcat" ∷ If of "\\ifx" ∷ If of "\\ifvoid" ∷ [])
+    ∷ (If of "\\ifhbox" ∷ If of "\\ifvbox" ∷ If of "\\ifhmode" ∷ If of "\\ifmmode" ∷ If of "\\ifvmode" ∷ If of "\\ifinner" ∷ If of "\\ifdim" ∷ [])
+    ∷ (If of "\\ifeof" ∷ If of "\\ifstar" ∷ Generic of "\\iffalsex" ∷ Generic of "\\IF" ∷ Generic of "\\lefty" ∷ [])
     -- the longest match
     ∷ (Dollar of "$$" ∷ Dollar of "$" ∷ [])
     ∷ (LineComment of "%c" ∷ [])

@@ -15,6 +15,7 @@ use Rattle.rules.specs.Patterns.{inFront}
 use Rattle.rules.specs.Token
 use Rattle.rules.proofs.Characters.{either}
 use Rattle.rules.proofs.Lexemes.{kindFrom}
+use Rattle.rules.proofs.Spellings.{spelled-is}
 use Rattle.tokeniser.specs.Names.{numberFrom}
 
 -- ---- a name is its bytes
@@ -67,19 +68,6 @@ only xs ys h h′ e =
     (λ g. same xs ys h h′ (omega (arith, ltb-false m n f, ltb-false n m g)) e .1))
 
 -- so a name is these bytes exactly when the numbers are the same
-inFront-is : (these name : List ℕ) → inFront these name ≡ true → length name ≡ length these → these ≡ name
-inFront-is [] [] h long = refl
-inFront-is [] (x ∷ name) h long = absurd (omega (arith, long))
-inFront-is (byte ∷ these) [] h long = absurd (omega (arith, long))
-inFront-is (byte ∷ these) (x ∷ name) h long =
-    either (eqb x byte) (λ t. ap₂ _∷_ (sym (eqb-true x byte t)) (inFront-is these name (rw t at h) (omega (arith, long))))
-    (λ f. absurd (false≢true (rw f at h)))
-
-spelled-is : (these name : List ℕ) → spelled these name ≡ true → these ≡ name
-unfolding spelled
-spelled-is these name h =
-    either (inFront these name) (λ t. inFront-is these name t (eqb-true _ _ (rw t at h))) (λ f. absurd (false≢true (rw f at h)))
-
 by-number : (these name : List ℕ) → Bytes these → Bytes name → spelled these name ≡ eqb (numberFrom 1 name) (numberFrom 1 these)
 by-number these name h h′ =
     either (eqb (numberFrom 1 name) (numberFrom 1 these))
@@ -107,7 +95,8 @@ fine (entry ∷ more) = (areBytes (bytes (entry .0)) && leb (length (bytes (entr
 abbrev pub numbered : List (String × ℕ) → List (ℕ × ℕ)
 numbered entries = map (λ (entry : String × ℕ). (numberFrom 1 (bytes (entry .0)), entry .1)) entries
 
-look-up : (entries : List (String × ℕ)) → fine entries ≡ true → (name : List ℕ) → Bytes name → lookUp entries name ≡ kindFrom Token.Generic (numbered entries) (numberFrom 1 name)
+look-up : (entries : List (String × ℕ)) → fine entries ≡ true → (name : List ℕ) → Bytes name
+    → lookUp entries name ≡ kindFrom Token.Generic (numbered entries) (numberFrom 1 name)
 look-up [] h name b = refl
 look-up (entry ∷ more) h name b =
     let these = bytes (entry .0) in
@@ -126,7 +115,10 @@ too-long (entry ∷ more) h name long =
     either (areBytes these)
     (λ t.
     either (leb (length these) 7)
-    (λ u. rw (ne-eqb (length name) (length these) (λ e. omega (arith, leb-true (length these) 7 u, e)), and-false (inFront these name)) (too-long more (rw (t, u) at h) name long))
+    (λ u.
+    let short = leb-true (length these) 7 u in
+    let other = ne-eqb (length name) (length these) (λ e. omega (arith, short, e)) in
+    rw (other, and-false (inFront these name)) (too-long more (rw (t, u) at h) name long))
     (λ f. absurd (false≢true (rw (t, f) at h))))
     (λ f. absurd (false≢true (rw f at h)))
 

@@ -90,7 +90,8 @@ module _ (text : List ℕ) where
       rows-of : rowsFrom at (tokensOf (drop at text)) ≡ numbersOf r ++ left
       rows-of = ap (rowsFrom at) (tokens-at text at here) ∙ rw (stands .kind, stands .start, stands .long, stands .end)
 
-      one-row : {v : List ℕ} → row * tokenWidth + tokenWidth ≤ length rows → v ≡ written tokenWidth row (numbersOf r) rows → Wrote before v (r .end) (row + 1)
+      one-row : {v : List ℕ} → row * tokenWidth + tokenWidth ≤ length rows → v ≡ written tokenWidth row (numbersOf r) rows
+          → Wrote before v (r .end) (row + 1)
       one-row {v} fit stored =
           let front = take (row * tokenWidth) rows in
           let next : (row + 1) * tokenWidth ≡ row * tokenWidth + tokenWidth = omega arith in

@@ -28,7 +28,8 @@ module _ (text : List ℕ) where
     pub one-high : 127 < getD text at 0 → Highs (high + 1) (at + 1)
     unfolding highIn
     one-high over =
-        let first : highIn (drop at text) ≡ suc (highIn (drop (at + 1) text)) = rw (drop-cons text at 0 here, lt-leb (getD text at 0) 127 over, next) in
+        let more = lt-leb (getD text at 0) 127 over in
+        let first : highIn (drop at text) ≡ suc (highIn (drop (at + 1) text)) = rw (drop-cons text at 0 here, more, next) in
         record { few = omega (arith, so-far .few); is = omega (arith, so-far .is, first) }
 
     pub one-low : getD text at 0 ≤ 127 → Highs high (at + 1)

@@ -78,4 +78,5 @@ module _ (text : List ℕ) (room : ℕ) where
 
     pub room-enough : length (tokensOf text) * Limits.tokenWidth ≤ room
     room-enough =
-        leb-true (length (tokensOf text) * Limits.tokenWidth) room (right-true few enough (right-true (leb (length text) Limits.text) (few && enough) is))
+        let both = right-true (leb (length text) Limits.text) (few && enough) is in
+        leb-true (length (tokensOf text) * Limits.tokenWidth) room (right-true few enough both)

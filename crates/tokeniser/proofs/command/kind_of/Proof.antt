@@ -23,8 +23,8 @@ ifs =
 
 abbrev arms : List (List String)
 arms =
-    ("" ∷ []) ∷ ("(" ∷ "[" ∷ []) ∷ (")" ∷ "]" ∷ []) ∷ ("iffalse" ∷ []) ∷ ("iftypst" ∷ []) ∷ ("else" ∷ []) ∷ ("fi" ∷ []) ∷ ("left" ∷ []) ∷ ("right" ∷ [])
-    ∷ ifs ∷ ("begin" ∷ []) ∷ ("end" ∷ []) ∷ []
+    ("" ∷ []) ∷ ("(" ∷ "[" ∷ []) ∷ (")" ∷ "]" ∷ []) ∷ ("iffalse" ∷ []) ∷ ("iftypst" ∷ []) ∷ ("else" ∷ []) ∷ ("fi" ∷ []) ∷ ("left" ∷ [])
+    ∷ ("right" ∷ []) ∷ ifs ∷ ("begin" ∷ []) ∷ ("end" ∷ []) ∷ []
 
 abbrev keys : List String → List ℕ
 keys names = map (λ (name : String). numberFrom 1 (bytes name)) names

@@ -34,8 +34,8 @@ loop-again c =
     let so-far = looped .loop .inv .0 in
     let here = inside .loop-test .taken in
     let on : ℕ → Type 0 = λ (high : ℕ). Highs text high (looped .loop .at + 1) in (
-      ⊎-elim (λ w. subst on (sym (w .1)) (one-high text so-far here (w .0 .taken))) (λ w. subst on (sym (w .1)) (one-low text so-far here (w .0 .left)))
-          (c .if1 .came),
+      ⊎-elim (λ w. subst on (sym (w .1)) (one-high text so-far here (w .0 .taken)))
+          (λ w. subst on (sym (w .1)) (one-low text so-far here (w .0 .left))) (c .if1 .came),
       refl,
     )
 
