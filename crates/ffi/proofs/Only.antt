@@ -11,13 +11,14 @@ use lib.Dec.{leb}
 use lib.ListN.{length}
 use Rattle.rules.specs.Checks.{Tables}
 use Rattle.rules.specs.Run.{Answer, accepted, refusedAt, run}
+use Rattle.rules.specs.Tokeniser.{Tokenised}
 use Rattle.rules.proofs.Characters.{either}
 use Rattle.syntax.proofs.Only.{Only, equal}
 use Rattle.listings.specs.Contract.{Lists}
 use Rattle.sheets.specs.Contract.{numbersOf}
 use Rattle.listings.specs.declared.listing.Listed.{Listed}
 use Rattle.listings.specs.declared.listing.Listed.the-variants.{Bytes, NoRoom}
-use Rattle.ffi.specs.Exported.{answerFrom, ranFrom, Hands, listedFrom, notRead}
+use Rattle.ffi.specs.Exported.{HandsOut, answerFrom, ranFrom, Hands, listedFrom, notRead}
 use Rattle.ffi.specs.declared.sheet.Counts.{Counts}
 use Rattle.ffi.proofs.cartglaze_is_display.Reads as is-display
 use Rattle.ffi.proofs.cartglaze_is_inline.Reads as is-inline
@@ -26,6 +27,15 @@ use Rattle.ffi.proofs.cartglaze_is_valid.Reads as is-valid
 use Rattle.ffi.proofs.cartglaze_is_whole.Reads as is-whole
 use Rattle.ffi.proofs.cartglaze_leaf_length.Reads as leaf-length
 use Rattle.ffi.proofs.cartglaze_leaf_start.Reads as leaf-start
+
+-- ---- a text
+
+-- what is returned, both numbers and every element of the lent rows
+pub only-tokenise : {done : Tokenised × List ℕ} {r s : Bool} {a b c d : ℕ} {v w : List ℕ} → HandsOut done r a b v → HandsOut done s c d w
+    → ((r ≡ s) × ((a ≡ c) × (b ≡ d))) × (v ≡ w)
+only-tokenise one other =
+    let same = one .numbers ∙ sym (other .numbers) in
+    ((ap (λ x. x .0) same, (ap (λ x. x .1 .0) same, ap (λ x. x .1 .1) same)), one .written ∙ sym (other .written))
 
 -- ---- the run
 

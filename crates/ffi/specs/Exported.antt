@@ -17,10 +17,19 @@ use Rattle.ffi.specs.declared.sheet.Counts.{Counts}
 
 -- ---- a text
 
+-- what is returned, and both numbers
+abbrev pub told : Bool → ℕ → ℕ → Bool × (ℕ × ℕ)
+told is first second = (is, (first, second))
+
 -- the count of token rows and 0, or the number of refusal and the place
-abbrev pub tokenisedIn : tokeniser.Tokenised → Bool × (ℕ × ℕ)
-tokenisedIn (tokeniser.written rows) = (true, (rows, 0))
-tokenisedIn (tokeniser.refusedAt number place) = (false, (number, place))
+abbrev pub toldOf : tokeniser.Tokenised → Bool × (ℕ × ℕ)
+toldOf (tokeniser.written rows) = told true rows 0
+toldOf (tokeniser.refusedAt number place) = told false number place
+
+-- what is handed out of what a text comes to, and the lent rows after it
+pub record HandsOut (done : tokeniser.Tokenised × List ℕ) (is : Bool) (first second : ℕ) (rows : List ℕ) : Type 0 where
+  pub numbers : told is first second ≡ toldOf (done .0)
+  pub written : rows ≡ done .1
 
 -- ---- the run
 

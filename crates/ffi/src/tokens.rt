@@ -1,7 +1,6 @@
 // A text's token rows for C and Rust.
-ghost use mathlib.Core.Path.{_≡_};
 ghost use Rattle.rules.specs.Tokeniser.{tokenise as tokeniseOf};
-ghost use Rattle.ffi.specs.Exported.{tokenisedIn};
+ghost use Rattle.ffi.specs.Exported.{HandsOut};
 use crate::number::wide;
 use cartglaze::Tokenised;
 use cartglaze::tokenise;
@@ -16,8 +15,7 @@ pub extern "C" fn cartglaze_tokenise(
 ) -> bool
     ensures { λ r.
         let done = tokeniseOf (now (text .entry)) (now (tokens .entry)) in
-        let numbers = (r, (now (first .exit), now (second .exit))) in
-        ⌜ (numbers, now (tokens .exit)) ≡ (tokenisedIn (done .0), done .1) ⌝ }
+        ⌜ HandsOut done r (now (first .exit)) (now (second .exit)) (now (tokens .exit)) ⌝ }
 {
     let tokenised = tokenise(text, tokens);
     match tokenised {
