@@ -43,3 +43,4 @@ pub mod Sources
 pub mod Tiled
 pub mod TokensRight
 pub mod Longest
+pub mod Untied

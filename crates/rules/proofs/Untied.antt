@@ -1,0 +1,124 @@
+-- No two patterns match as long at one place, so priorities decide nothing: by its first byte one pattern matches at most, but for the backslash, whose
+-- two match two bytes and one. Computed byte by byte where the byte is no Word's. Assumes nothing.
+use Prim.Native.Nat.{ℕ, zero, suc}
+use mathlib.Core.Path.{_≡_, refl, sym, ap, _∙_}
+use mathlib.Core.Bool.{Bool, true, false, not, _&&_, _||_, and-eq-true-iff, or-true, false≢true}
+use mathlib.Core.List.{List, [], _∷_, _++_, append-nil}
+use lib.Dec.{eqb}
+use lib.ListN.{getD, take, drop}
+use borrow.Author.Tests.{eqb-true, eq-eqb, not-false}
+use Rattle.rules.specs.Notation.{bytes}
+use Rattle.rules.specs.Patterns.{Pattern, patterns, noPattern, run, inFront, isBreak, isBlank, isWord}
+use Rattle.rules.specs.Scope.{among}
+use Rattle.rules.proofs.Characters.{either}
+use Rattle.rules.proofs.Lexemes.{silent, word-quiet, word-still}
+
+module _ (left : List ℕ) where
+  abbrev size : List Pattern → ℕ → ℕ
+  size ps k = getD ps k noPattern .matched left
+
+  -- none matches so much, if it matches
+  abbrev others : ℕ → List Pattern → Bool
+  others n [] = true
+  others n (p ∷ more) = (eqb (p .matched left) 0 || not (eqb (p .matched left) n)) && others n more
+
+  -- of each pattern: it matches nothing, or none behind it matches as much
+  abbrev untied : List Pattern → Bool
+  untied [] = true
+  untied (p ∷ more) = (eqb (p .matched left) 0 || others (p .matched left) more) && untied more
+
+  -- what the tests tell
+  other : (n : ℕ) (ps : List Pattern) → others n ps ≡ true → (k : ℕ) → size ps k ≡ n → n ≡ 0
+  other n [] h k e = sym e
+  other n (p ∷ more) h zero e =
+      either (eqb (p .matched left) 0) (λ t. sym e ∙ eqb-true _ _ t) (λ f. absurd (false≢true (rw (f, eq-eqb (p .matched left) n e) at h)))
+  other n (p ∷ more) h (suc k) e =
+      other n more (and-eq-true-iff (eqb (p .matched left) 0 || not (eqb (p .matched left) n)) (others n more) .0 h .1) k e
+
+  first : (p : Pattern) (more : List Pattern) → untied (p ∷ more) ≡ true → (k : ℕ) → size more k ≡ p .matched left → p .matched left ≡ 0
+  first p more h k e =
+      either (eqb (p .matched left) 0) (λ t. eqb-true _ _ t)
+      (λ f. other (p .matched left) more (and-eq-true-iff (others (p .matched left) more) (untied more) .0 (rw f at h) .0) k e)
+
+  apart : (ps : List Pattern) → untied ps ≡ true → (i j : ℕ) → (i ≡ j → ⊥) → size ps i ≡ size ps j → size ps i ≡ 0
+  apart [] h i j differ e = refl
+  apart (p ∷ more) h zero zero differ e = absurd (differ refl)
+  apart (p ∷ more) h zero (suc j) differ e = first p more h j (sym e)
+  apart (p ∷ more) h (suc i) zero differ e = e ∙ first p more h i e
+  apart (p ∷ more) h (suc i) (suc j) differ e =
+      apart more (and-eq-true-iff (eqb (p .matched left) 0 || others (p .matched left) more) (untied more) .0 h .1) i j (λ same. differ (ap suc same)) e
+
+  -- patterns that match nothing are tied with none
+  others-quiet : (n : ℕ) (ps : List Pattern) → silent left ps ≡ true → others n ps ≡ true
+  others-quiet n [] h = refl
+  others-quiet n (p ∷ more) h =
+      either (eqb (p .matched left) 0) (λ t. rw t (others-quiet n more (rw t at h))) (λ f. absurd (false≢true (rw f at h)))
+
+  quiet-then : (ps rest : List Pattern) → silent left ps ≡ true → untied rest ≡ true → untied (ps ++ rest) ≡ true
+  quiet-then [] rest h ok = ok
+  quiet-then (p ∷ more) rest h ok =
+      either (eqb (p .matched left) 0) (λ t. rw t (quiet-then more rest (rw t at h) ok)) (λ f. absurd (false≢true (rw f at h)))
+
+  -- one between such patterns is tied with none
+  alone : (before : List Pattern) (p : Pattern) (more : List Pattern) → silent left before ≡ true → silent left more ≡ true
+      → untied (before ++ (p ∷ more)) ≡ true
+  alone before p more quiet still =
+      let none-behind : untied more ≡ true = rw (append-nil more) at (quiet-then more [] still refl) in
+      quiet-then before (p ∷ more) quiet (rw (others-quiet (p .matched left) more still, none-behind, or-true (eqb (p .matched left) 0)))
+
+-- ---- by the first byte
+
+-- a test that bytes of a list pass
+abbrev all : (ℕ → Bool) → List ℕ → Bool
+all test [] = true
+all test (byte ∷ more) = test byte && all test more
+
+each : (test : ℕ → Bool) (keys : List ℕ) (byte : ℕ) → all test keys ≡ true → among byte keys ≡ true → test byte ≡ true
+each test [] byte h is = absurd (false≢true is)
+each test (k ∷ keys) byte h is =
+    let both = and-eq-true-iff (test k) (all test keys) .0 h in
+    either (eqb byte k) (λ t. rw (eqb-true byte k t) (both .0)) (λ f. each test keys byte (both .1) (rw f at is))
+
+module _ (left : List ℕ) where
+  abbrev fine : ℕ → Bool
+  fine byte = untied (byte ∷ left) patterns
+
+  breaks : all fine (0x0D ∷ 0x0A ∷ []) ≡ true
+  unfolding run
+  breaks = simp or-true
+
+  blanks : all fine (0x09 ∷ 0x0B ∷ 0x0C ∷ 0x20 ∷ []) ≡ true
+  unfolding run
+  blanks = simp or-true
+
+  marks : all fine (bytes "%{},$[]()~/_*@'\";&^#") ≡ true
+  unfolding run
+  marks = simp or-true
+
+  backslash : fine 0x5C ≡ true
+  unfolding run
+  backslash = either (inFront (0x5C ∷ []) left) (λ t. rw t) (λ f. rw f)
+
+  word : (byte : ℕ) → isWord byte ≡ true → fine byte ≡ true
+  word byte is =
+      alone (byte ∷ left) (take 21 patterns) (getD patterns 21 noPattern) (drop 22 patterns) (word-quiet left byte is) (word-still left byte is)
+
+  by-byte : (byte : ℕ) → fine byte ≡ true
+  by-byte byte =
+      either (isWord byte) (word byte)
+      (λ no-word.
+      either (isBreak byte) (each fine (0x0D ∷ 0x0A ∷ []) byte breaks)
+      (λ no-break.
+      either (isBlank byte) (each fine (0x09 ∷ 0x0B ∷ 0x0C ∷ 0x20 ∷ []) byte blanks)
+      (λ no-blank. each fine (bytes "\\%{},$[]()~/_*@'\";&^#") byte (rw backslash marks)
+      (not-false _ (rw (no-break, no-blank) at no-word)))))
+
+untied-patterns : (left : List ℕ) → untied left patterns ≡ true
+unfolding run
+untied-patterns [] = refl
+untied-patterns (byte ∷ left) = by-byte left byte
+
+-- two different patterns that match as much match nothing
+pub never-tied : (left : List ℕ) (i j : ℕ) → (i ≡ j → ⊥) → getD patterns i noPattern .matched left ≡ getD patterns j noPattern .matched left
+    → getD patterns i noPattern .matched left ≡ 0
+never-tied left = apart left patterns (untied-patterns left)
