@@ -44,3 +44,4 @@ pub mod Tiled
 pub mod TokensRight
 pub mod Longest
 pub mod Untied
+pub mod Tokenised

@@ -22,7 +22,7 @@ behind [] xs n c e = let same : n ≡ c = omega (arith, e) in ap (λ (k : ℕ). 
 behind (x ∷ front) xs zero c e = absurd (omega (arith, e))
 behind (x ∷ front) xs (suc n) c e = behind front xs n c (omega (arith, e))
 
-rows-long : (at : ℕ) (tokens : List Lexeme) → length (rowsFrom at tokens) ≡ length tokens * tokenWidth
+pub rows-long : (at : ℕ) (tokens : List Lexeme) → length (rowsFrom at tokens) ≡ length tokens * tokenWidth
 rows-long at [] = refl
 rows-long at (t ∷ more) = let rest = rows-long (at + t .size) more in omega (arith, rest)
 

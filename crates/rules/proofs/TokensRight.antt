@@ -143,9 +143,9 @@ module _ (t : Tables) (low : Low (t .text)) where
       (λ f. at-end stand (omega (arith, ltb-false at (length (t .text)) f)))
 
 -- "Word empty or not UTF-8", and the rest of refusal 3, never come of what a text of ASCII bytes is cut into, whatever shapes there are
-pub never-refused-3 : (t : Tables) → Low (t .text) → t .tokens ≡ tokenRows (t .text) → firstBad (tokenRight t) (tokenCount (t .tokens)) 0 ≡ none
+pub rows-right : (t : Tables) → Low (t .text) → t .tokens ≡ tokenRows (t .text) → firstBad (tokenRight t) (tokenCount (t .tokens)) 0 ≡ none
 unfolding tokenRows
-never-refused-3 t low are =
+rows-right t low are =
     let whole : tokenCount (t .tokens) - 0 ≡ tokenCount (t .tokens) = omega arith in
     ap (λ (n : ℕ). firstBad (tokenRight t) n 0) (sym whole)
     ∙ none-bad t low (length (t .text)) {i = 0} {at = 0} (record { front = []; is = are; long = refl }) (omega arith) (omega arith)

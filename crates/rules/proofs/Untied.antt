@@ -1,5 +1,5 @@
--- No two patterns match as long at one place, so priorities decide nothing: by its first byte one pattern matches at most, but for the backslash, whose
--- two match two bytes and one. Computed byte by byte where the byte is no Word's. Assumes nothing.
+-- No two patterns match as long at one place, so priorities decide nothing: by the first byte one pattern matches at most, but for the backslash, of
+-- whose two one matches two bytes and the other one. Computed byte by byte where the byte is no Word's. Assumes nothing.
 use Prim.Native.Nat.{ℕ, zero, suc}
 use mathlib.Core.Path.{_≡_, refl, sym, ap, _∙_}
 use mathlib.Core.Bool.{Bool, true, false, not, _&&_, _||_, and-eq-true-iff, or-true, false≢true}
@@ -46,7 +46,8 @@ module _ (left : List ℕ) where
   apart (p ∷ more) h zero (suc j) differ e = first p more h j (sym e)
   apart (p ∷ more) h (suc i) zero differ e = e ∙ first p more h i e
   apart (p ∷ more) h (suc i) (suc j) differ e =
-      apart more (and-eq-true-iff (eqb (p .matched left) 0 || others (p .matched left) more) (untied more) .0 h .1) i j (λ same. differ (ap suc same)) e
+      let rest = and-eq-true-iff (eqb (p .matched left) 0 || others (p .matched left) more) (untied more) .0 h .1 in
+      apart more rest i j (λ same. differ (ap suc same)) e
 
   -- patterns that match nothing are tied with none
   others-quiet : (n : ℕ) (ps : List Pattern) → silent left ps ≡ true → others n ps ≡ true
