@@ -45,3 +45,4 @@ pub mod TokensRight
 pub mod Longest
 pub mod Untied
 pub mod Tokenised
+pub mod TextReturns
