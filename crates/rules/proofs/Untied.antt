@@ -1,20 +1,24 @@
 -- No two patterns match as long at one place, so priorities decide nothing: by the first byte one pattern matches at most, but for the backslash, of
 -- whose two one matches two bytes and the other one. Computed byte by byte where the byte is no Word's. Assumes nothing.
-use Prim.Native.Nat.{ℕ, zero, suc}
+use Prim.Native.Nat.{ℕ, zero, suc, _≤_, _<_}
 use mathlib.Core.Path.{_≡_, refl, sym, ap, _∙_}
-use mathlib.Core.Bool.{Bool, true, false, not, _&&_, _||_, and-eq-true-iff, or-true, false≢true}
+use mathlib.Core.Bool.{Bool, true, false, not, cond, _&&_, _||_, and-eq-true-iff, or-true, false≢true}
 use mathlib.Core.List.{List, [], _∷_, _++_, append-nil}
+use native.Mathlib.Nat.{le-refl}
+use native.Mathlib.Omega.{arith}
 use lib.Dec.{eqb}
 use lib.ListN.{getD, take, drop}
-use borrow.Author.Tests.{eqb-true, eq-eqb, not-false}
+use borrow.Author.Tests.{eqb-true, eqb-false, eq-eqb, not-false}
 use Rattle.rules.specs.Notation.{bytes}
-use Rattle.rules.specs.Patterns.{Pattern, patterns, noPattern, run, inFront, isBreak, isBlank, isWord}
+use Rattle.rules.specs.Patterns.{Pattern, patterns, noPattern, beats, bestOf, patternOf, run, inFront, isBreak, isBlank, isWord}
 use Rattle.rules.specs.Scope.{among}
 use Rattle.rules.proofs.Characters.{either}
+use Rattle.rules.proofs.Longest.{longest}
 use Rattle.rules.proofs.Lexemes.{silent, word-quiet, word-still}
 
 module _ (left : List ℕ) where
-  abbrev size : List Pattern → ℕ → ℕ
+  -- how much the k-th pattern matches
+  abbrev pub size : List Pattern → ℕ → ℕ
   size ps k = getD ps k noPattern .matched left
 
   -- none matches so much, if it matches
@@ -120,6 +124,45 @@ untied-patterns [] = refl
 untied-patterns (byte ∷ left) = by-byte left byte
 
 -- two different patterns that match as much match nothing
-pub never-tied : (left : List ℕ) (i j : ℕ) → (i ≡ j → ⊥) → getD patterns i noPattern .matched left ≡ getD patterns j noPattern .matched left
-    → getD patterns i noPattern .matched left ≡ 0
+pub never-tied : (left : List ℕ) (i j : ℕ) → (i ≡ j → ⊥) → size left patterns i ≡ size left patterns j → size left patterns i ≡ 0
 never-tied left = apart left patterns (untied-patterns left)
+
+-- ---- the longest match alone
+
+none-longer : {a b : ℕ} → 0 < a → a ≤ b → b ≡ 0 → ⊥
+none-longer some low nothing = omega arith
+
+as-long : {a b c : ℕ} → a ≤ c → c ≡ b → b ≤ a → a ≡ b
+as-long low is high = omega arith
+
+module _ (left : List ℕ) where
+  -- the best is the one that was had before, or one of the patterns
+  data Among (ps : List Pattern) (best p : Pattern) : Type 0 where
+    had : p ≡ best → Among ps best p
+    found : (k : ℕ) → p ≡ getD ps k noPattern → Among ps best p
+
+  later : (p : Pattern) (more : List Pattern) (best : Pattern) {q : Pattern} (b : Bool) → Among more (cond b p best) q → Among (p ∷ more) best q
+  later p more best true (had is) = found 0 is
+  later p more best false (had is) = had is
+  later p more best b (found k is) = found (suc k) is
+
+  best-among : (ps : List Pattern) (best : Pattern) → Among ps best (bestOf left best ps)
+  best-among [] best = had refl
+  best-among (p ∷ more) best = later p more best (beats left p best) (best-among more (cond (beats left p best) p best))
+
+  the-best : Among patterns noPattern (patternOf left)
+  unfolding patternOf
+  the-best = best-among patterns noPattern
+
+  -- a pattern that matches, and as much as any, is the token's: no priority is asked
+  pub by-length : (k : ℕ) → 0 < size left patterns k → ((j : ℕ) → size left patterns j ≤ size left patterns k)
+      → patternOf left ≡ getD patterns k noPattern
+  by-length k some most = by-place the-best
+    where
+      by-place : Among patterns noPattern (patternOf left) → patternOf left ≡ getD patterns k noPattern
+      by-place (had is) = absurd (none-longer some (longest left k) (ap (λ (p : Pattern). p .matched left) is))
+      by-place (found j is) =
+          either (eqb j k) (λ t. is ∙ ap (λ (n : ℕ). getD patterns n noPattern) (eqb-true j k t))
+          (λ f.
+          let same = as-long (longest left k) (ap (λ (p : Pattern). p .matched left) is) (most j) in
+          absurd (none-longer some (le-refl (size left patterns k)) (never-tied left k j (λ e. eqb-false j k f (sym e)) same)))
