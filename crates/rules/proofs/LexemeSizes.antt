@@ -1,7 +1,7 @@
 -- How long tokens are: none is empty, and none goes past what is left. Assumes nothing.
-use Prim.Native.Nat.{ℕ, zero, suc, _+_, _-_, _≤_, _<_}
+use Prim.Native.Nat.{ℕ, suc, _+_, _-_, _≤_, _<_}
 use mathlib.Core.Path.{_≡_, refl, sym, ap, subst, _∙_}
-use mathlib.Core.Bool.{Bool, true, false, cond, _&&_, and-false, false≢true}
+use mathlib.Core.Bool.{true, false, false≢true}
 use mathlib.Core.List.{List, [], _∷_}
 use native.Mathlib.Omega.{arith}
 use lib.Dec.{eqb, ltb}
@@ -59,7 +59,8 @@ pub data Front (byte : ℕ) (left : List ℕ) : Type 0 where
   named : byte ≡ 0x5C → lexeme (byte ∷ left) ≡ command (byte ∷ left) → Front byte left
 
 module _ (left : List ℕ) where
-  of-run : (byte : ℕ) (of : Class) (kind : ℕ) → kind ≤ Token.NewLine → of byte ≡ true → lexeme (byte ∷ left) ≡ plain kind (run of (byte ∷ left)) → Front byte left
+  of-run : (byte : ℕ) (of : Class) (kind : ℕ) → kind ≤ Token.NewLine → of byte ≡ true → lexeme (byte ∷ left) ≡ plain kind (run of (byte ∷ left))
+      → Front byte left
   unfolding run
   of-run byte of kind low is front =
       matched kind (suc (run of left)) low (omega arith) (omega (arith, run-fits of left)) (front ∙ rw is)
@@ -70,7 +71,8 @@ module _ (left : List ℕ) where
 
   backslash : Front 0x5C left
   backslash =
-      either (inFront (0x5C ∷ []) left) (λ t. twice 0x5C Token.NewLine (omega arith) t (at-new-line (drop 1 left))) (λ f. named refl (at-backslash left f))
+      either (inFront (0x5C ∷ []) left) (λ t. twice 0x5C Token.NewLine (omega arith) t (at-new-line (drop 1 left)))
+      (λ f. named refl (at-backslash left f))
 
   dollar : Front 0x24 left
   dollar =
@@ -122,7 +124,8 @@ of-command byte left =
     (λ f. rw f (of-size kind size (suc (length left)) (omega arith) (omega arith)))
 
 by-front : {byte : ℕ} {left : List ℕ} → Front byte left → Sized (lexeme (byte ∷ left)) (suc (length left))
-by-front {left} (matched kind size low some fits is) = subst (λ t. Sized t (suc (length left))) (sym is) (of-size kind size (suc (length left)) some fits)
+by-front {left} (matched kind size low some fits is) =
+    subst (λ t. Sized t (suc (length left))) (sym is) (of-size kind size (suc (length left)) some fits)
 by-front {byte} {left} (named is-backslash is) = subst (λ t. Sized t (suc (length left))) (sym is) (of-command byte left)
 
 pub sized : (left : List ℕ) (byte : ℕ) → Sized (lexeme (byte ∷ left)) (suc (length left))

@@ -1,17 +1,17 @@
--- The token in front, by its first byte. Where one pattern matches and no other does, it is the longest; each pattern begins with a byte that no other
--- begins with, but for the backslash. Assumes nothing.
+-- The token in front, by its first byte. Where one pattern matches and no other does, it is the longest; each pattern begins with a byte that no
+-- other begins with, but for the backslash. Assumes nothing.
 use Prim.Native.Nat.{ℕ, suc, _+_, _<_, _≤_}
 use mathlib.Core.Path.{_≡_, refl, sym, ap, subst, _∙_}
-use mathlib.Core.Bool.{Bool, true, false, cond, _&&_, _||_, false≢true}
+use mathlib.Core.Bool.{Bool, true, false, cond, false≢true}
 use mathlib.Core.List.{List, [], _∷_, _++_, map}
 use native.Mathlib.Omega.{arith}
-use lib.Dec.{eqb, ltb, leb}
+use lib.Dec.{eqb, leb}
 use lib.ListN.{getD, take, drop}
 use borrow.Author.Tests.{eqb-true, lt-ltb, le-ltb, ne-eqb, leb-true}
 use Rattle.rules.specs.Patterns.{Pattern, patterns, bestOf, beats, noPattern, run, inFront, patternOf, isBreak, isBlank, isNoBreak, isWord}
 use Rattle.rules.specs.Scope.{among}
 use Rattle.rules.specs.Token
-use Rattle.rules.specs.Tokeniser.{Lexeme, plain, command, lexeme}
+use Rattle.rules.specs.Tokeniser.{plain, command, lexeme}
 use Rattle.rules.proofs.Characters.{either}
 
 -- ---- one pattern matches, and no other
@@ -91,9 +91,9 @@ each P (k ∷ keys) byte (k′ by this also others) h =
 abbrev pub singles : List (ℕ × ℕ)
 singles =
     (0x7B, Token.LeftCurly) ∷ (0x7D, Token.RightCurly) ∷ (0x2C, Token.Comma) ∷ (0x5B, Token.LeftBracket) ∷ (0x5D, Token.RightBracket)
-    ∷ (0x28, Token.LeftParen) ∷ (0x29, Token.RightParen) ∷ (0x7E, Token.Tilde) ∷ (0x2F, Token.Slash) ∷ (0x5F, Token.Underscore) ∷ (0x2A, Token.Asterisk)
-    ∷ (0x40, Token.AtSign) ∷ (0x27, Token.Apostrophe) ∷ (0x22, Token.Ditto) ∷ (0x3B, Token.Semicolon) ∷ (0x26, Token.Ampersand) ∷ (0x5E, Token.Caret)
-    ∷ (0x23, Token.Hash) ∷ []
+    ∷ (0x28, Token.LeftParen) ∷ (0x29, Token.RightParen) ∷ (0x7E, Token.Tilde) ∷ (0x2F, Token.Slash) ∷ (0x5F, Token.Underscore)
+    ∷ (0x2A, Token.Asterisk) ∷ (0x40, Token.AtSign) ∷ (0x27, Token.Apostrophe) ∷ (0x22, Token.Ditto) ∷ (0x3B, Token.Semicolon)
+    ∷ (0x26, Token.Ampersand) ∷ (0x5E, Token.Caret) ∷ (0x23, Token.Hash) ∷ []
 
 abbrev pub alones : List ℕ
 alones = map (λ (s : ℕ × ℕ). s .0) singles

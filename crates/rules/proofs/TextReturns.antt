@@ -3,7 +3,7 @@
 use Prim.Native.Nat.{ℕ}
 use Prim.Native.String.{String}
 use mathlib.Core.Path.{_≡_, refl, sym, ap, ap₂, _∙_}
-use mathlib.Core.List.{List, [], _∷_, _++_, map, map-map, append-nil}
+use mathlib.Core.List.{List, [], _++_, map, map-map, append-nil}
 use native.Mathlib.Nat.{sub-zero}
 use lib.ListN.{getD, replicate}
 use Rattle.rules.specs.Checks.{Tables}

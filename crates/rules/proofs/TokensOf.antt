@@ -28,7 +28,8 @@ pub no-token : tokensOf [] ≡ []
 unfolding lexemes
 no-token = refl
 
-pub first-token : (byte : ℕ) (left : List ℕ) → tokensOf (byte ∷ left) ≡ lexeme (byte ∷ left) ∷ tokensOf (drop (lexeme (byte ∷ left) .size) (byte ∷ left))
+pub first-token : (byte : ℕ) (left : List ℕ)
+    → tokensOf (byte ∷ left) ≡ lexeme (byte ∷ left) ∷ tokensOf (drop (lexeme (byte ∷ left) .size) (byte ∷ left))
 unfolding lexemes
 first-token byte left =
     let token = lexeme (byte ∷ left) in
