@@ -2,5 +2,6 @@
 pub mod Ways
 pub mod Only
 pub mod NothingLost
+pub mod FromText
 pub mod Formulas
 pub mod Room

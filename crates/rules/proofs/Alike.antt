@@ -416,11 +416,18 @@ accepted {p} (both-went {p = p′} {q} at whole) e =
 accepted (both-refused number place known) e = let z : _≡_ {A = ℕ} 0 1 = cc in absurd (omega arith)
 
 -- a refusal is one of 5 to 8
-pub known-number : {o : FlatRun} {u : RowanRun} {number place : ℕ} → SameRun o u → u ≡ refused number place → Known number
-known-number (both-went at whole) e = let z : _≡_ {A = ℕ} 0 1 = cc in absurd (omega arith)
-known-number {number} (both-refused number′ place known) e = let same : number′ ≡ number = cc in rw same at known
+abbrev pub AnyKnown : {X : Type 0} → Out X → Type 0
+AnyKnown (went x) = Unit {0}
+AnyKnown (refused number place) = Known number
+
+known-numbers : {o : FlatRun} {u : RowanRun} → SameRun o u → AnyKnown o × AnyKnown u
+known-numbers (both-went at whole) = (tt, tt)
+known-numbers (both-refused number place known) = (known, known)
 
 module _ (room : ℕ) (source : Source) where
+  pub known-refusals : AnyKnown (parse (flat room) source Flat.empty)
+  known-refusals = known-numbers (same-run room source) .0
+
   -- the rows of an accepted run are those of one tree with the root's kind: they balance, and each finish names its start's kind
   pub rows-of-a-tree : (p : Pos Built Mark)
       → parse (flat room) source Flat.empty ≡ went p
@@ -429,4 +436,4 @@ module _ (room : ℕ) (source : Source) where
 
   -- rowan's other assertion, a mark past the last child, is never met
   pub never-past-last : (place : ℕ) → parse (rowan room) source Rowan.nothing ≡ refused Rowan.markPastLast place → ⊥
-  never-past-last place e = let known = known-number (same-run room source) e in omega arith
+  never-past-last place e = let known = rw e at (known-numbers (same-run room source) .1) in omega arith

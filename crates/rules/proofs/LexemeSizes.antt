@@ -1,7 +1,7 @@
 -- How long tokens are: none is empty, and none goes past what is left. Assumes nothing.
-use Prim.Native.Nat.{ℕ, zero, suc, _+_, _-_, _≤_, _<_}
+use Prim.Native.Nat.{ℕ, suc, _+_, _-_, _≤_, _<_}
 use mathlib.Core.Path.{_≡_, refl, sym, ap, subst, _∙_}
-use mathlib.Core.Bool.{Bool, true, false, cond, _&&_, and-false, false≢true}
+use mathlib.Core.Bool.{true, false, false≢true}
 use mathlib.Core.List.{List, [], _∷_}
 use native.Mathlib.Omega.{arith}
 use lib.Dec.{eqb, ltb}
@@ -59,8 +59,7 @@ pub data Front (byte : ℕ) (left : List ℕ) : Type 0 where
   named : byte ≡ 0x5C → lexeme (byte ∷ left) ≡ command (byte ∷ left) → Front byte left
 
 module _ (left : List ℕ) where
-  of-run : (byte : ℕ) (of : Class) (kind : ℕ) → kind ≤ Token.NewLine → of byte ≡ true
-      → lexeme (byte ∷ left) ≡ plain kind (run of (byte ∷ left))
+  of-run : (byte : ℕ) (of : Class) (kind : ℕ) → kind ≤ Token.NewLine → of byte ≡ true → lexeme (byte ∷ left) ≡ plain kind (run of (byte ∷ left))
       → Front byte left
   unfolding run
   of-run byte of kind low is front =

@@ -2,21 +2,21 @@
 -- other begins with, but for the backslash. Assumes nothing.
 use Prim.Native.Nat.{ℕ, suc, _+_, _<_, _≤_}
 use mathlib.Core.Path.{_≡_, refl, sym, ap, subst, _∙_}
-use mathlib.Core.Bool.{Bool, true, false, cond, _&&_, _||_, false≢true}
+use mathlib.Core.Bool.{Bool, true, false, cond, false≢true}
 use mathlib.Core.List.{List, [], _∷_, _++_, map}
 use native.Mathlib.Omega.{arith}
-use lib.Dec.{eqb, ltb, leb}
+use lib.Dec.{eqb, leb}
 use lib.ListN.{getD, take, drop}
 use borrow.Author.Tests.{eqb-true, lt-ltb, le-ltb, ne-eqb, leb-true}
 use Rattle.rules.specs.Patterns.{Pattern, patterns, bestOf, beats, noPattern, run, inFront, patternOf, isBreak, isBlank, isNoBreak, isWord}
 use Rattle.rules.specs.Scope.{among}
 use Rattle.rules.specs.Token
-use Rattle.rules.specs.Tokeniser.{Lexeme, plain, command, lexeme}
+use Rattle.rules.specs.Tokeniser.{plain, command, lexeme}
 use Rattle.rules.proofs.Characters.{either}
 
 -- ---- one pattern matches, and no other
 module _ (left : List ℕ) where
-  abbrev silent : List Pattern → Bool
+  abbrev pub silent : List Pattern → Bool
   silent [] = true
   silent (p ∷ more) = cond (eqb (p .matched left) 0) (silent more) false
 
@@ -179,11 +179,10 @@ module _ (left : List ℕ) where
     free : (k : ℕ) → isWord k ≡ false → eqb byte k ≡ false
     free k other = either (eqb byte k) (λ t. absurd (false≢true (sym other ∙ rw (← eqb-true byte k t) is))) (λ f. f)
 
-    pub at-word : lexeme (byte ∷ left) ≡ plain Token.Word (run isWord (byte ∷ left))
+    pub word-quiet : silent (byte ∷ left) (take 21 patterns) ≡ true
     unfolding run
-    at-word =
-        by-pattern (byte ∷ left) 21 refl
-        (rw (
+    word-quiet =
+        rw (
           free 0x0D refl,
           free 0x0A refl,
           free 0x09 refl,
@@ -209,8 +208,14 @@ module _ (left : List ℕ) where
           free 0x26 refl,
           free 0x5E refl,
           free 0x23 refl,
-        ))
-        (rw (free 0x24 refl, free 0x5C refl)) (rw is (omega arith)) refl
+        )
+
+    pub word-still : silent (byte ∷ left) (drop 22 patterns) ≡ true
+    word-still = rw (free 0x24 refl, free 0x5C refl)
+
+    pub at-word : lexeme (byte ∷ left) ≡ plain Token.Word (run isWord (byte ∷ left))
+    unfolding run
+    at-word = by-pattern (byte ∷ left) 21 refl word-quiet word-still (rw is (omega arith)) refl
 
 -- a byte of no Word that begins none of the longer patterns is a token alone
 pub is-alone :

@@ -43,3 +43,6 @@ pub mod Sources
 pub mod Tiled
 pub mod TokensRight
 pub mod Longest
+pub mod Untied
+pub mod Tokenised
+pub mod TextReturns

@@ -13,7 +13,7 @@ use Rattle.rules.specs.Flat.{Built, Mark, tagLeaf, flat, empty}
 use Rattle.rules.specs.Limits.{treeWidth, droppedWidth}
 use Rattle.rules.specs.Outcome.{Out, went, refused}
 use Rattle.rules.specs.Position.{Pos}
-use Rattle.rules.specs.PutBack.{treeRows, droppedRows, leaves, textsOf, Stored, stored, putBack, tokenTexts, EachToken, stretchAt, InToken, Rises}
+use Rattle.rules.specs.PutBack.{treeRows, droppedRows, leaves, textsOf, Stored, stored, putBack, textsFrom, tokenTexts, EachToken, stretchAt, InToken, Rises}
 use Rattle.rules.specs.Questions.{tagAt}
 use Rattle.rules.specs.Reading.{parse}
 use Rattle.rules.specs.Run.{accepted, over, afterReading, afterChecks, run}
@@ -102,7 +102,9 @@ module _ (t : Tables) (tree dropped : List ℕ) {rows drops : ℕ} (e : run t tr
 
   -- "In every accepted run, put the dropped texts back among the leaf texts where the dropped list says: the token texts return, joined in order."
   pub texts-return : putBack storedOf ≡ tokenTexts (t .text) (t .tokens)
-  texts-return = rw storedTexts (rw sub-zero at (put-back (t .text) (t .tokens) each-token))
+  texts-return =
+      let all = textsFrom (t .text) (t .tokens) in
+      rw storedTexts (rw sub-zero at (put-back (t .text) (t .tokens) (λ i l. l) (λ i word l. refl) all (λ i. refl) (λ i n. refl) each-token))
 
 -- "So two accepted inputs whose joined texts differ never share tree, leaf texts and dropped list with its texts."
 pub never-share : (t t′ : Tables) (tree dropped tree′ dropped′ : List ℕ) {rows drops rows′ drops′ : ℕ}

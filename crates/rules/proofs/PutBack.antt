@@ -10,10 +10,11 @@ use lib.Dec.{eqb}
 use lib.Seq.{drop-drop, take-add, getD-take}
 use borrow.Author.Tests.{eq-eqb, ne-eqb}
 use Rattle.rules.specs.Flat.{four, tagLeaf, droppedRow}
-use Rattle.rules.specs.Tables.{tokenCount, part}
+use Rattle.rules.specs.Tables.{tokenCount, kindAt, part}
+use Rattle.rules.specs.Token
 use Rattle.rules.proofs.Characters.{either}
 use Rattle.rules.proofs.Reached.{Leaves, Dropped}
-use Rattle.rules.specs.PutBack.{leaves, textsOf, tokenText, withTexts, droppedAfter, backFrom, textsFrom, Parts, last, more, EachToken, end, leaf, split, drops, Rises, none, next}
+use Rattle.rules.specs.PutBack.{Stretch, leaves, textsOf, tokenText, droppedAfter, backFrom, Parts, last, more, EachToken, end, leaf, split, drops, Rises, none, next}
 
 -- ---- dropped texts that stand elsewhere
 
@@ -58,47 +59,62 @@ pub part-add : (text : List ℕ) (start size rest : ℕ) → part text start (si
 part-add text start size rest =
     take-add size rest (drop start text) ∙ ap (λ (l : List ℕ). part text start size ++ take rest l) (drop-drop size start text)
 
-module _ (text tokens : List ℕ) where
-  abbrev left : List (List ℕ) → List (List ℕ × List ℕ)
-  left dropped = withTexts text tokens dropped
+-- ---- token by token, with whatever is put around the text of a token that is no Word
+
+module _ (text tokens : List ℕ) (around : ℕ → List ℕ → List ℕ) where
+  -- of each leaf, and of each dropped row
+  abbrev pub leafPieces : Leaves → List (List ℕ)
+  leafPieces leaves = map (λ (l : Stretch). around (l .token) (part text (l .start) (l .size))) leaves
+
+  abbrev pub droppedPieces : Dropped → List (List ℕ × List ℕ)
+  droppedPieces dropped = map (λ (row : List ℕ). (row, around (getD row 0 0) (tokenText text tokens (getD row 0 0)))) dropped
 
   -- where no dropped text stands among the parts of a range, they give its text
   parts-text : {token start size : ℕ} {parts : Leaves} (leaves : Leaves) (ds : List (List ℕ × List ℕ)) (k : ℕ)
+      → ((l : List ℕ) → around token l ≡ l)
       → Parts token start size parts
       → ((j : ℕ) → j < k + length parts → droppedAfter j ds ≡ [])
-      → backFrom k (textsOf text (parts ++ leaves)) ds ≡ part text start size ++ backFrom (k + length parts) (textsOf text leaves) ds
-  parts-text {start} {size} leaves ds k (last some) away = rw (away k (omega arith))
-  parts-text leaves ds k (more {start} {size} {rest} {parts} some others) away =
+      → backFrom k (leafPieces (parts ++ leaves)) ds ≡ part text start size ++ backFrom (k + length parts) (leafPieces leaves) ds
+  parts-text {start} {size} leaves ds k bare (last some) away = rw (away k (omega arith), bare (part text start size))
+  parts-text leaves ds k bare (more {start} {size} {rest} {parts} some others) away =
       let count : k + 1 + length parts ≡ k + suc (length parts) = omega arith in
-      let after = parts-text leaves ds (k + 1) others (λ j low. away j (omega arith)) in
-      rw (away k (omega arith), after, part-add text start size rest, count)
-      (sym (append-assoc (part text start size) (part text (start + size) rest) (backFrom (k + suc (length parts)) (textsOf text leaves) ds)))
+      let after = parts-text leaves ds (k + 1) bare others (λ j low. away j (omega arith)) in
+      rw (away k (omega arith), bare (part text start size), after, part-add text start size rest, count)
+      (sym (append-assoc (part text start size) (part text (start + size) rest) (backFrom (k + suc (length parts)) (leafPieces leaves) ds)))
 
   -- no dropped text stands before the leaves that are yet to come
   not-before : {i k : ℕ} {leaves : Leaves} {dropped : Dropped}
       → EachToken tokens i k leaves dropped
       → (j : ℕ)
       → j < k
-      → droppedAfter j (left dropped) ≡ []
+      → droppedAfter j (droppedPieces dropped) ≡ []
   not-before (end e) j low = refl
   not-before (leaf there rest) j low = not-before rest j (omega arith)
   not-before (split there word parts rest) j low = not-before rest j (omega arith)
   not-before (drops {i} {k} {reason} {dropped} there rest) j low =
-      after-other (droppedRow i reason k, tokenText text tokens i) (left dropped) j (λ e. omega arith) ∙ not-before rest j low
+      after-other (droppedRow i reason k, around i (tokenText text tokens i)) (droppedPieces dropped) j (λ e. omega arith) ∙ not-before rest j low
 
   -- the tokens that are yet to come
   yet : (i : ℕ) → i < tokenCount tokens → tokenCount tokens - i ≡ suc (tokenCount tokens - (i + 1))
   yet i there = omega arith
 
-  pub put-back : {i k : ℕ} {leaves : Leaves} {dropped : Dropped}
-      → EachToken tokens i k leaves dropped
-      → backFrom k (textsOf text leaves) (left dropped) ≡ textsFrom text tokens i (tokenCount tokens - i)
-  put-back {i} (end e) = let over : tokenCount tokens - i ≡ 0 = omega arith in rw over
-  put-back (leaf {i} {k} there rest) = rw (yet i there, not-before rest k (omega arith), put-back rest)
-  put-back (split {i} {k} {parts} {leaves} {dropped} there word are rest) =
-      parts-text leaves (left dropped) k are (not-before rest) ∙ rw (yet i there, put-back rest)
-  put-back (drops {i} {k} {reason} {leaves} {dropped} there rest) =
-      back-here (droppedRow i reason k, tokenText text tokens i) (left dropped) k (textsOf text leaves) refl ∙ rw (yet i there, put-back rest)
+  -- a Word's text stands alone, so that its parts are its text
+  module _ (bare : (i : ℕ) → kindAt tokens i ≡ Token.Word → (l : List ℕ) → around i l ≡ l)
+      (joined : ℕ → ℕ → List ℕ)
+      (nothing : (i : ℕ) → joined i 0 ≡ [])
+      (one-more : (i n : ℕ) → joined i (suc n) ≡ around i (tokenText text tokens i) ++ joined (i + 1) n) where
+    pub put-back : {i k : ℕ} {leaves : Leaves} {dropped : Dropped}
+        → EachToken tokens i k leaves dropped
+        → backFrom k (leafPieces leaves) (droppedPieces dropped) ≡ joined i (tokenCount tokens - i)
+    put-back {i} (end e) = let over : tokenCount tokens - i ≡ 0 = omega arith in rw (over, nothing i)
+    put-back (leaf {i} {k} there rest) =
+        rw (yet i there, one-more i (tokenCount tokens - (i + 1)), not-before rest k (omega arith), put-back rest)
+    put-back (split {i} {k} {parts} {leaves} {dropped} there word are rest) =
+        parts-text leaves (droppedPieces dropped) k (bare i word) are (not-before rest)
+        ∙ rw (yet i there, one-more i (tokenCount tokens - (i + 1)), bare i word (tokenText text tokens i), put-back rest)
+    put-back (drops {i} {k} {reason} {leaves} {dropped} there rest) =
+        back-here (droppedRow i reason k, around i (tokenText text tokens i)) (droppedPieces dropped) k (leafPieces leaves) refl
+        ∙ rw (yet i there, one-more i (tokenCount tokens - (i + 1)), put-back rest)
 
 -- each token is dropped at most once, and in the order of tokens
 pub rises : {tokens : List ℕ} {i k : ℕ} {leaves : Leaves} {dropped : Dropped}

@@ -1,22 +1,22 @@
 -- A token's source range is its text, with a backslash to the brace before it and a brace behind it where it is a \begin or an \end with its name:
 -- by the longest match a plain token is all text, and a command with a name in braces is spelled by its kind. Assumes nothing.
-use Prim.Native.Nat.{ℕ, zero, suc, _+_, _-_, _≤_, _<_}
+use Prim.Native.Nat.{ℕ, _+_, _-_, _<_}
 use mathlib.Core.Path.{_≡_, refl, sym, ap, ap₂, subst, _∙_}
-use mathlib.Core.Bool.{Bool, true, false, cond, not, _&&_, _||_, false≢true}
+use mathlib.Core.Bool.{Bool, true, false, cond, _&&_}
 use mathlib.Core.List.{List, [], _∷_, _++_, append-nil, append-assoc}
 use native.Mathlib.Omega.{arith}
 use lib.Dec.{eqb, ltb}
 use lib.ListN.{length, take, drop, length-append}
 use lib.Seq.{take-add, drop-drop, length-take-le}
 use borrow.Author.Tests.{eqb-true, ne-eqb, ltb-true}
-use Rattle.rules.specs.Commands.{spellings, nameSize, kindOf, isName, inBraces, takesName, withName}
+use Rattle.rules.specs.Commands.{nameSize, kindOf, isName, inBraces, takesName, withName}
 use Rattle.rules.specs.Notation.{bytes}
 use Rattle.rules.specs.Patterns.{run, inFront}
 use Rattle.rules.specs.Token
 use Rattle.rules.specs.Tokeniser.{Lexeme, plain, environment, command, lexeme, opening, closing}
 use Rattle.rules.proofs.Characters.{either}
 use Rattle.rules.proofs.LexemeSizes.{Front, matched, named, fronts, in-front, name-fits}
-use Rattle.rules.proofs.Spellings.{allKinds, kind-passes, begin-only, end-only}
+use Rattle.rules.proofs.Spellings.{other-kind, begin-only, end-only}
 
 pub record Sourced (token : Lexeme) (left : List ℕ) : Type 0 where
   pub is : take (token .size) left ≡ opening (token .kind) ++ (take (token .length) (drop (token .lead) left) ++ closing (token .kind))
@@ -105,13 +105,10 @@ module _ (left : List ℕ) where
         }
 
   -- a name's kind is never 27 or 28
-  other-than : (k : ℕ) → allKinds (λ (n : ℕ). not (eqb n k)) spellings ≡ true → eqb kind k ≡ false
-  other-than k test =
-      let other = kind-passes (λ (n : ℕ). not (eqb n k)) (take (nameSize left) left) test in
-      either (eqb kind k) (λ t. absurd (false≢true (rw t at other))) (λ f. f)
-
   bare : Sourced (plain kind size) All
-  bare = of-plain kind size All (other-than Token.BeginEnvironment refl) (other-than Token.EndEnvironment refl)
+  bare =
+      let word = take (nameSize left) left in
+      of-plain kind size All (other-kind Token.BeginEnvironment word refl) (other-kind Token.EndEnvironment word refl)
 
   by-test : (b : Bool) → (takesName kind && ltb 0 name) ≡ b → Sourced (cond b (environment kind size name) (plain kind size)) All
       → Sourced (command All) All

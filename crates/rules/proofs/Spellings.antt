@@ -1,13 +1,13 @@
 -- What a name's kind tells of the name: only `begin` has 31, only `end` 32, and none has 27, 28 or a Word's. Assumes nothing.
-use Prim.Native.Nat.{ℕ, _+_}
+use Prim.Native.Nat.{ℕ}
 use Prim.Native.String.{String}
-use mathlib.Core.Path.{_≡_, refl, sym, ap, ap₂, _∙_}
-use mathlib.Core.Bool.{Bool, true, false, cond, not, _&&_, _||_, false≢true}
+use mathlib.Core.Path.{_≡_, refl, sym, ap₂, _∙_}
+use mathlib.Core.Bool.{Bool, true, false, cond, not, false≢true}
 use mathlib.Core.List.{List, [], _∷_}
 use native.Mathlib.Omega.{arith}
 use lib.Dec.{eqb}
 use lib.ListN.{length}
-use borrow.Author.Tests.{eqb-true, eq-eqb}
+use borrow.Author.Tests.{eqb-true, eq-eqb, not-true}
 use Rattle.rules.specs.Commands.{spelled, lookUp, spellings, kindOf}
 use Rattle.rules.specs.Notation.{bytes}
 use Rattle.rules.specs.Patterns.{inFront}
@@ -44,12 +44,15 @@ pub kind-passes : (test : ℕ → Bool) (name : List ℕ) → allKinds test spel
 unfolding kindOf
 kind-passes test name = passes test spellings name
 
+-- a kind that is neither in the table nor Generic is no name's
+pub other-kind : (kind : ℕ) (name : List ℕ) → allKinds (λ (n : ℕ). not (eqb n kind)) spellings ≡ true → eqb (kindOf name) kind ≡ false
+other-kind kind name test = not-true (eqb (kindOf name) kind) (kind-passes (λ (n : ℕ). not (eqb n kind)) name test)
+
 -- ---- every entry of a kind has these bytes: so has a name of that kind
 abbrev allSpelled : ℕ → List ℕ → List (String × ℕ) → Bool
 allSpelled kind these [] = not (eqb Token.Generic kind)
 allSpelled kind these (entry ∷ more) =
-    let rest = allSpelled kind these more in
-    cond (eqb (entry .1) kind) (cond (spelled these (bytes (entry .0))) rest false) rest
+    cond (eqb (entry .1) kind) (cond (spelled these (bytes (entry .0))) (allSpelled kind these more) false) (allSpelled kind these more)
 
 only-these : (kind : ℕ) (these : List ℕ) (entries : List (String × ℕ)) (name : List ℕ) → allSpelled kind these entries ≡ true
     → lookUp entries name ≡ kind

@@ -1,6 +1,6 @@
 -- The source ranges of the tokens of a text tile it, and joined they are the text: at each place what is left is the source text of the token there,
 -- and then what is left behind it. Assumes nothing.
-use Prim.Native.Nat.{ℕ, zero, suc, _+_, _*_, _-_, _/_, _≤_, _<_}
+use Prim.Native.Nat.{ℕ, zero, suc, _+_, _*_, _-_, _≤_, _<_}
 use mathlib.Core.Path.{_≡_, refl, sym, ap, ap₂, subst, _∙_}
 use mathlib.Core.List.{List, [], _∷_, _++_, append-assoc}
 use native.Mathlib.Omega.{arith}
@@ -12,7 +12,6 @@ use Rattle.rules.specs.Limits.{tokenWidth}
 use Rattle.rules.specs.Tables.{tokenCount, kindAt, startAt, lengthAt, shapeAt, part}
 use Rattle.rules.specs.Tokeniser.{Lexeme, lexeme, tokensOf, rowsFrom, tokenRows, opening, closing, sourceText, sourcesFrom, sourceEnd, Tiles, done, next}
 use Rattle.rules.proofs.Characters.{either}
-use Rattle.rules.proofs.LexemeSizes.{Sized}
 use Rattle.rules.proofs.Sources.{Sourced, sourced}
 use Rattle.rules.proofs.TokensOf.{first, size-at, tokens-at, none-left}
 
@@ -22,7 +21,7 @@ behind [] xs n c e = let same : n ≡ c = omega (arith, e) in ap (λ (k : ℕ). 
 behind (x ∷ front) xs zero c e = absurd (omega (arith, e))
 behind (x ∷ front) xs (suc n) c e = behind front xs n c (omega (arith, e))
 
-rows-long : (at : ℕ) (tokens : List Lexeme) → length (rowsFrom at tokens) ≡ length tokens * tokenWidth
+pub rows-long : (at : ℕ) (tokens : List Lexeme) → length (rowsFrom at tokens) ≡ length tokens * tokenWidth
 rows-long at [] = refl
 rows-long at (t ∷ more) = let rest = rows-long (at + t .size) more in omega (arith, rest)
 

@@ -1,26 +1,26 @@
 -- What a text of ASCII bytes is cut into passes refusal 3: each kind is under 40, each token lies in the text, none has a shape, and a Word has at
 -- least one byte, which is a character. Assumes nothing.
-use Prim.Native.Nat.{ℕ, zero, suc, _+_, _*_, _-_, _≤_, _<_}
+use Prim.Native.Nat.{ℕ, zero, suc, _+_, _-_, _≤_, _<_}
 use mathlib.Core.Path.{_≡_, refl, sym, ap, subst, _∙_}
-use mathlib.Core.Bool.{Bool, true, false, cond, not, _&&_, _||_, false≢true}
+use mathlib.Core.Bool.{true, _&&_}
 use mathlib.Core.List.{List, [], _∷_}
-use mathlib.Core.Option.{Option, none}
+use mathlib.Core.Option.{none}
 use native.Mathlib.Omega.{arith}
-use lib.Dec.{eqb, leb, ltb}
+use lib.Dec.{eqb, ltb}
 use lib.ListN.{length, getD, take, drop}
-use borrow.Author.Tests.{eqb-true, eq-eqb, lt-ltb, le-leb, ltb-true, ltb-false, ne-eqb}
+use borrow.Author.Tests.{eqb-true, eqb-false, lt-ltb, le-leb, ltb-true, ltb-false, ne-eqb}
 use Rattle.rules.specs.Characters.{charLength, isUtf8}
 use Rattle.rules.specs.Checks.{Tables, shapeCount, firstBad, wordRight, tokenRight}
-use Rattle.rules.specs.Commands.{spellings, nameSize, kindOf, inBraces, takesName, withName}
+use Rattle.rules.specs.Commands.{nameSize, kindOf, inBraces, takesName}
 use Rattle.rules.specs.Limits
-use Rattle.rules.specs.Tables.{tokenCount, kindAt, startAt, lengthAt, shapeAt, part}
+use Rattle.rules.specs.Tables.{tokenCount, kindAt, startAt, lengthAt, shapeAt}
 use Rattle.rules.specs.Token
 use Rattle.rules.specs.Tokeniser.{Lexeme, plain, environment, command, lexeme, tokenRows}
 use Rattle.rules.proofs.Characters.{either, utf8-rest, utf8-nothing}
 use Rattle.rules.proofs.LexemeSizes.{Front, matched, named, fronts, Sized}
 use Rattle.rules.proofs.Tiled.{Stand, count, kind-is, start-is, length-is, shape-is, stand-next}
 use Rattle.rules.proofs.TokensOf.{first, size-at, tokens-at, none-left}
-use Rattle.rules.proofs.Spellings.{allKinds, kind-passes}
+use Rattle.rules.proofs.Spellings.{kind-passes, other-kind}
 
 -- ---- ASCII bytes are characters
 pub data Low : List ℕ → Type 0 where
@@ -57,8 +57,7 @@ of-command b left =
     let kind = kindOf name in
     let braces = inBraces (drop size (b ∷ left)) in
     let small : kind < Limits.kinds = ltb-true kind Limits.kinds (kind-passes (λ (n : ℕ). ltb n Limits.kinds) name refl) in
-    let other = kind-passes (λ (n : ℕ). not (eqb n Token.Word)) name refl in
-    let no-word : kind ≡ Token.Word → ⊥ = λ is. false≢true (rw (eq-eqb kind Token.Word is) at other) in
+    let no-word : kind ≡ Token.Word → ⊥ = eqb-false kind Token.Word (other-kind Token.Word name refl) in
     either (takesName kind && ltb 0 braces)
     (λ t. rw t (of-braces kind size braces))
     (λ f. rw f (of-name kind size small no-word))
@@ -144,9 +143,9 @@ module _ (t : Tables) (low : Low (t .text)) where
       (λ f. at-end stand (omega (arith, ltb-false at (length (t .text)) f)))
 
 -- "Word empty or not UTF-8", and the rest of refusal 3, never come of what a text of ASCII bytes is cut into, whatever shapes there are
-pub never-refused-3 : (t : Tables) → Low (t .text) → t .tokens ≡ tokenRows (t .text) → firstBad (tokenRight t) (tokenCount (t .tokens)) 0 ≡ none
+pub rows-right : (t : Tables) → Low (t .text) → t .tokens ≡ tokenRows (t .text) → firstBad (tokenRight t) (tokenCount (t .tokens)) 0 ≡ none
 unfolding tokenRows
-never-refused-3 t low are =
+rows-right t low are =
     let whole : tokenCount (t .tokens) - 0 ≡ tokenCount (t .tokens) = omega arith in
     ap (λ (n : ℕ). firstBad (tokenRight t) n 0) (sym whole)
     ∙ none-bad t low (length (t .text)) {i = 0} {at = 0} (record { front = []; is = are; long = refl }) (omega arith) (omega arith)

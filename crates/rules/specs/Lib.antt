@@ -35,4 +35,5 @@ pub mod PutBackCases
 pub mod Patterns
 pub mod Commands
 pub mod Tokeniser
+pub mod FormulaText
 pub mod TokeniserCases

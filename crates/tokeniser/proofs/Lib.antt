@@ -8,3 +8,4 @@ mod Fronts
 mod High
 mod Cutting
 mod Judged
+pub mod Only
