@@ -68,7 +68,7 @@ lex:
 	./oracle/beside
 	nice target/oracle/release/lex $(CASES) $(SEED)
 
-# Tables that no lexer makes, and rows that no run gives, against the model: some thousand under valgrind first, then so many.
+# Tables that no lexer makes, rows that no run gives, and any bytes as a text, against the model: some thousand under valgrind first, then so many.
 HOSTILE = 1000000
 hostile:
 	./oracle/beside
