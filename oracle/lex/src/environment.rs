@@ -21,7 +21,8 @@ pub(crate) fn environment(after: &[u8]) -> Option<Listed> {
     match name {
         _ if before.comments > 0 => Some(Listed::NameInComment),
         _ if before.bytes > 0 => Some(Listed::WhiteBeforeBrace),
-        _ if behind.bytes > 0 => Some(Listed::BlankBehindName),
+        _ if behind.comments > 0 => Some(Listed::CommentBehindName),
+        _ if behind.bytes > 0 => Some(Listed::WhiteBehindName),
         0 => Some(Listed::EmptyName),
         _ if inside[..name].contains(&b'@') => Some(Listed::AtInBraces),
         _ => None,

@@ -15,12 +15,13 @@ pub enum Listed {
     EmptyName,
     AtInBraces,
     WhiteBeforeBrace,
-    BlankBehindName,
+    WhiteBehindName,
+    CommentBehindName,
     NameInComment,
 }
 
 impl Listed {
-    pub const ALL: [Listed; 11] = [
+    pub const ALL: [Listed; 12] = [
         Listed::LoneBackslash,
         Listed::WhiteName,
         Listed::AtInName,
@@ -30,7 +31,8 @@ impl Listed {
         Listed::EmptyName,
         Listed::AtInBraces,
         Listed::WhiteBeforeBrace,
-        Listed::BlankBehindName,
+        Listed::WhiteBehindName,
+        Listed::CommentBehindName,
         Listed::NameInComment,
     ];
 
@@ -48,11 +50,12 @@ impl Listed {
             Listed::EmptyName => "empty braces: here no name, there an empty one",
             Listed::AtInBraces => "braces with an @: here no name, there one",
             Listed::WhiteBeforeBrace => "white bytes before the brace: here no name, there one",
-            Listed::BlankBehindName => {
-                "white bytes or comments behind the name: here no name, there one"
+            Listed::WhiteBehindName => "white bytes behind the name: here no name, there one",
+            Listed::CommentBehindName => {
+                "comments behind the name: here no name, there one, and the source's end again"
             }
             Listed::NameInComment => {
-                "three comments or more before the brace: there a name out of the last of them"
+                "three comments or more before the brace: here no name, there one out of a comment"
             }
         }
     }

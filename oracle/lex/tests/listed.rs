@@ -35,7 +35,8 @@ fn example(kind: Listed) -> (&'static str, [u32; 3], [u32; 3]) {
         Listed::EmptyName => (r"\end{}", [32, 0, 4], [28, 5, 0]),
         Listed::AtInBraces => (r"\end{@}", [32, 0, 4], [28, 5, 1]),
         Listed::WhiteBeforeBrace => (r"\end {}", [32, 0, 4], [28, 6, 0]),
-        Listed::BlankBehindName => (r"\end{ }", [32, 0, 4], [28, 5, 0]),
+        Listed::WhiteBehindName => (r"\end{ }", [32, 0, 4], [28, 5, 0]),
+        Listed::CommentBehindName => ("\\end{%\n}", [32, 0, 4], [28, 5, 0]),
         Listed::NameInComment => ("\\end%\n%\n%}\n{", [32, 0, 4], [28, 9, 0]),
     }
 }
@@ -55,6 +56,22 @@ fn each_kind_has_a_smallest_example() {
         let rust = token_rows(text, &known().spec).expect("no panic");
         assert_eq!(rust[0].numbers()[..3], there, "{text:?}");
     }
+}
+
+/// The Rust doesn't count the line break that ends a comment: behind a name, as many bytes of
+/// the source come again as tokens.
+#[test]
+fn behind_comments_the_sources_end_comes_again() {
+    let rust = |text: &str| -> Vec<[u32; 3]> {
+        let rows = token_rows(text, &known().spec).expect("no panic");
+        let row = |token: sheet::Token| [token.kind, token.start, token.len];
+        rows.into_iter().map(row).collect()
+    };
+    let (brace, line_break) = (6, 0);
+    assert_eq!(rust("\\end{a }"), [[28, 5, 1]]);
+    assert_eq!(rust("\\end{a%\n}"), [[28, 5, 1], [brace, 8, 1]]);
+    let two = [[28, 5, 1], [line_break, 9, 1], [brace, 10, 1]];
+    assert_eq!(rust("\\end{a%\n%\n}"), two);
 }
 
 #[test]
