@@ -13,8 +13,10 @@ pub(crate) fn rows(
     text: &[u8],
     tokenise: Tokeniser,
 ) -> Result<Result<Vec<Token>, Refusal>, String> {
-    // No token is without bytes. Some numbers more are no row or two.
-    let (came, numbers) = lend(text, Token::WIDTH * text.len() + text.len() % 7, tokenise);
+    // Each token has a byte or more, so this is room for all; what is over is less than a row,
+    // or a row and more.
+    let lent = Token::WIDTH * text.len() + 1 + text.len() % 7;
+    let (came, numbers) = lend(text, lent, tokenise);
     let count = match came {
         Ok(count) => count,
         Err(refusal) => {
