@@ -43,8 +43,11 @@ fn stack() -> ExitCode {
     ExitCode::SUCCESS
 }
 
+/// One time to another.
+type Ratio = fn(&Measured) -> f64;
+
 /// What is printed of each workload, the worst over its sizes.
-const RATIOS: [(&str, fn(&Measured) -> f64); 4] = [
+const RATIOS: [(&str, Ratio); 4] = [
     ("port/(whole - lexing)", Measured::port_to_rest),
     ("port/mitex", Measured::port_to_mitex),
     ("lex/mitex", Measured::lex_to_mitex),
@@ -86,7 +89,7 @@ fn all(span: Duration) -> ExitCode {
 }
 
 /// The greatest ratio over the sizes.
-fn worst(measured: &[Measured], ratio: fn(&Measured) -> f64) -> f64 {
+fn worst(measured: &[Measured], ratio: Ratio) -> f64 {
     measured.iter().map(ratio).fold(0.0, f64::max)
 }
 
