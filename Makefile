@@ -1,5 +1,5 @@
 # The README's two commands, and the Rust beside the port.
-.PHONY: test run treelist examples ffi library ffi-test oracle record oracle-test differ hostile bench pair
+.PHONY: test run treelist examples ffi library ffi-test oracle record oracle-test differ lex hostile bench pair
 
 # The gate: layout, proofs, must-fail edits, programs.
 test:
@@ -62,7 +62,13 @@ differ:
 	./oracle/beside
 	nice target/oracle/release/differ $(CASES) $(SEED)
 
-# Tables that no lexer makes, and rows that no run gives, against the model: some thousand under valgrind first, then so many.
+# The proved tokeniser held against the repository's lexer, over so many texts: they differ as docs/DIFFERENCES.md lists and not otherwise.
+lex: CASES = 5000000
+lex:
+	./oracle/beside
+	nice target/oracle/release/lex $(CASES) $(SEED)
+
+# Tables that no lexer makes, rows that no run gives, and any bytes as a text, against the model: some thousand under valgrind first, then so many.
 HOSTILE = 1000000
 hostile:
 	./oracle/beside

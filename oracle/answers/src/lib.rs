@@ -23,5 +23,5 @@ pub use questions::formula_questions;
 pub use quiet::with_deep_stack;
 pub use run::Run;
 pub use spec::{Class, Form, Named, Spec};
-pub use tokens::token_rows;
+pub use tokens::{cuts, lexed, token_rows};
 pub use verdicts::Verdicts;

@@ -13,22 +13,32 @@ use crate::{kinds, Spec};
 /// is given as well, since document 01 has it checked and then ignored.
 pub fn token_rows(text: &str, spec: &Spec) -> Result<Vec<Token>, Fault> {
     let command_spec = spec.command_spec();
-    catch(|| rows(text, spec, command_spec)).map_err(|panic| Fault::Lexer(message(&*panic)))
+    let with_shape = |token: Token| {
+        let start = token.start as usize;
+        let part = &text[start..start + token.len as usize];
+        let shape = shape(token.kind, part, spec);
+        Token { shape, ..token }
+    };
+    lexed(|| cuts(text, command_spec).map(with_shape).collect())
 }
 
-fn rows(text: &str, spec: &Spec, command_spec: CommandSpec) -> Vec<Token> {
-    let mut lexer = Lexer::<()>::new(text, command_spec);
-    let mut rows = Vec::new();
-    while let Some((token, part)) = lexer.eat() {
-        let kind = kinds::number(token);
-        rows.push(Token {
-            kind,
+/// What is done with the lexer's tokens, or how it panicked.
+pub fn lexed<T>(work: impl FnOnce() -> T) -> Result<T, Fault> {
+    catch(work).map_err(|panic| Fault::Lexer(message(&*panic)))
+}
+
+/// The lexer's tokens one by one, without macros and without shapes.
+pub fn cuts(text: &str, spec: CommandSpec) -> impl Iterator<Item = Token> + '_ {
+    let mut lexer = Lexer::<()>::new(text, spec);
+    std::iter::from_fn(move || {
+        let (token, part) = lexer.eat()?;
+        Some(Token {
+            kind: kinds::number(token),
             start: (part.as_ptr() as usize - text.as_ptr() as usize) as u32,
             len: part.len() as u32,
-            shape: shape(kind, part, spec),
-        });
-    }
-    rows
+            shape: 0,
+        })
+    })
 }
 
 fn shape(kind: u32, part: &str, spec: &Spec) -> u32 {

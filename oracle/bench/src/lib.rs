@@ -1,6 +1,8 @@
-//! The port, the Rust's parser and a Vec of rows, timed on the same tokens.
+//! The port, the Rust's parser and a Vec of rows, timed on the same tokens; the port's
+//! tokeniser and the Rust's lexer, timed on the same text.
 
 mod clock;
+mod from_text;
 mod insertions;
 mod measured;
 mod rivals;

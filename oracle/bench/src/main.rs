@@ -1,4 +1,5 @@
-//! Times the port, the Rust's parser and a Vec of rows on the same tokens.
+//! Times the port, the Rust's parser and a Vec of rows on the same tokens, and the port's
+//! tokeniser and the Rust's lexer on the same text.
 //!
 //! `bench` prints a table with nanoseconds a token and then the ratios: of each workload
 //! the worst over its sizes, and port/vec of those that move rows, each at one size. `bench
@@ -42,6 +43,17 @@ fn stack() -> ExitCode {
     ExitCode::SUCCESS
 }
 
+/// One time to another.
+type Ratio = fn(&Measured) -> f64;
+
+/// What is printed of each workload, the worst over its sizes.
+const RATIOS: [(&str, Ratio); 4] = [
+    ("port/(whole - lexing)", Measured::port_to_rest),
+    ("port/mitex", Measured::port_to_mitex),
+    ("lex/mitex", Measured::lex_to_mitex),
+    ("text/mitex", Measured::text_to_mitex),
+];
+
 /// The workloads that move rows, with the size at which each is held against the Vec. The
 /// binder's ratio is the output's last line, which other pages name.
 const TO_VEC: [(&str, usize); 3] = [("primes", 16_000), ("chain", 16_000), (BINDER, 10_000)];
@@ -50,7 +62,8 @@ fn all(span: Duration) -> ExitCode {
     println!(
         "nanoseconds a token, the least of many rounds: the port; mitex's parser on tokens made"
     );
-    println!("before; the same with its lexer; that lexer alone; the same rows put into a Vec");
+    println!("before; the same with its lexer; that lexer alone; the same rows put into a Vec;");
+    println!("the port's tokeniser; the port from the text to the tree");
     println!("workload   {}", Measured::HEADING);
     let measured: Vec<_> = WORKLOADS.iter().map(|w| (w, sizes(w, span))).collect();
     for (workload, measured) in &measured {
@@ -59,13 +72,11 @@ fn all(span: Duration) -> ExitCode {
         let growth = last.per_token(last.port) / first.per_token(first.port);
         println!("growth {} {growth:.2}", workload.name);
     }
-    for (workload, measured) in &measured {
-        let worst = worst(measured, Measured::port_to_rest);
-        println!("ratio {} port/(whole - lexing) {worst:.2}", workload.name);
-    }
-    for (workload, measured) in &measured {
-        let worst = worst(measured, Measured::port_to_mitex);
-        println!("ratio {} port/mitex {worst:.2}", workload.name);
+    for (name, ratio) in RATIOS {
+        for (workload, measured) in &measured {
+            let worst = worst(measured, ratio);
+            println!("ratio {} {name} {worst:.2}", workload.name);
+        }
     }
     for (name, size) in TO_VEC {
         let of_name = measured.iter().find(|(workload, _)| workload.name == name);
@@ -78,7 +89,7 @@ fn all(span: Duration) -> ExitCode {
 }
 
 /// The greatest ratio over the sizes.
-fn worst(measured: &[Measured], ratio: fn(&Measured) -> f64) -> f64 {
+fn worst(measured: &[Measured], ratio: Ratio) -> f64 {
     measured.iter().map(ratio).fold(0.0, f64::max)
 }
 

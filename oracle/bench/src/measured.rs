@@ -15,11 +15,17 @@ pub struct Measured {
     /// The lexer alone.
     pub lexing: Duration,
     pub vec: Duration,
+    /// The port's tokeniser.
+    pub lex: Duration,
+    /// The port from the text to the tree.
+    pub text: Duration,
 }
 
 impl Measured {
-    pub const HEADING: &'static str =
-        "tokens    rows     port    mitex    whole   lexing      vec  port/mitex  port/vec";
+    pub const HEADING: &'static str = concat!(
+        "tokens    rows     port    mitex    whole   lexing      vec      lex     text",
+        "  port/mitex  port/vec"
+    );
 
     pub fn port_to_mitex(&self) -> f64 {
         self.port.as_secs_f64() / self.mitex.as_secs_f64()
@@ -35,6 +41,16 @@ impl Measured {
         self.port.as_secs_f64() / self.vec.as_secs_f64()
     }
 
+    /// The tokeniser to the Rust's lexer.
+    pub fn lex_to_mitex(&self) -> f64 {
+        self.lex.as_secs_f64() / self.lexing.as_secs_f64()
+    }
+
+    /// From the text to the tree, to the Rust's parser with its lexer.
+    pub fn text_to_mitex(&self) -> f64 {
+        self.text.as_secs_f64() / self.whole.as_secs_f64()
+    }
+
     /// Nanoseconds a token.
     pub fn per_token(&self, time: Duration) -> f64 {
         time.as_secs_f64() * 1e9 / self.tokens as f64
@@ -44,7 +60,16 @@ impl Measured {
 impl fmt::Display for Measured {
     fn fmt(&self, f: &mut fmt::Formatter<'_>) -> fmt::Result {
         write!(f, "{:6} {:7}", self.tokens, self.rows)?;
-        for time in [self.port, self.mitex, self.whole, self.lexing, self.vec] {
+        let times = [
+            self.port,
+            self.mitex,
+            self.whole,
+            self.lexing,
+            self.vec,
+            self.lex,
+            self.text,
+        ];
+        for time in times {
             write!(f, " {:8.2}", self.per_token(time))?;
         }
         write!(f, " {:11.2}", self.port_to_mitex())?;

@@ -11,6 +11,7 @@ use mitex_spec::CommandSpec;
 use sheet::{Row, Tables};
 
 use crate::clock::{least, time};
+use crate::from_text::FromText;
 use crate::insertions::{insert_all, insertions, Insertion, Numbers};
 use crate::measured::Measured;
 use crate::workloads::Workload;
@@ -24,15 +25,22 @@ pub enum Rival {
     Whole,
     Lexing,
     Vec,
+    /// The port's tokeniser.
+    Lex,
+    /// The port from the text to the tree: its tokeniser, shape numbers from a list that was
+    /// made before, and its run.
+    Text,
 }
 
 impl Rival {
-    pub const ALL: [(&'static str, Rival); 5] = [
+    pub const ALL: [(&'static str, Rival); 7] = [
         ("port", Rival::Port),
         ("mitex", Rival::Mitex),
         ("whole", Rival::Whole),
         ("lexing", Rival::Lexing),
         ("vec", Rival::Vec),
+        ("lex", Rival::Lex),
+        ("text", Rival::Text),
     ];
 }
 
@@ -44,6 +52,7 @@ pub struct Prepared {
     dropped: Vec<u32>,
     insertions: Vec<Insertion>,
     rows: Vec<Numbers>,
+    from_text: FromText,
 }
 
 impl Prepared {
@@ -59,6 +68,7 @@ impl Prepared {
             tree: vec![0; Row::WIDTH * run.writes.len()],
             dropped: vec![0; 3 * run.tables.token_count()],
             rows: Vec::with_capacity(run.writes.len()),
+            from_text: FromText::new(&run.tables),
             tables: run.tables,
             text,
         };
@@ -66,20 +76,33 @@ impl Prepared {
         assert_eq!(counts.map(|counts| counts.rows), Ok(run.rows.len()));
         insert_all(&mut prepared.rows, &prepared.insertions);
         assert_eq!(prepared.tree, prepared.rows.concat(), "{}", workload.name);
-        prepared_lexer::prepare(text, prepared.spec.clone());
-        let green = Parser::new(text, prepared.spec.clone()).parse();
-        assert_eq!(
-            green,
-            PreparedParser::new("", prepared.spec.clone()).parse()
-        );
         let told = run.rows.iter().map(|row| row.numbers());
         assert!(told.eq(prepared.rows.iter().copied()));
+        prepared.check_rust();
+        prepared.check_text();
         prepared
+    }
+
+    /// The Rust gives the same tree from tokens that were made before.
+    fn check_rust(&self) {
+        prepared_lexer::prepare(self.text, self.spec.clone());
+        let green = Parser::new(self.text, self.spec.clone()).parse();
+        let prepared = PreparedParser::new("", self.spec.clone()).parse();
+        assert_eq!(green, prepared);
+    }
+
+    /// The port gives the same tokens and the same tree from the text.
+    fn check_text(&mut self) {
+        let expected = std::mem::take(&mut self.tree);
+        self.tree = vec![0; expected.len()];
+        let counts = self.from_text.run(&mut self.tree, &mut self.dropped);
+        assert_eq!(counts.map(|counts| counts.rows), Ok(self.insertions.len()));
+        assert!(self.from_text.tables == self.tables && self.tree == expected);
     }
 
     /// The least times of all rivals.
     pub fn measure(&mut self, span: Duration) -> Measured {
-        let [port, mitex, whole, lexing, vec] =
+        let [port, mitex, whole, lexing, vec, lex, text] =
             least(span, Rival::ALL.map(|(_, rival)| rival), |rival| {
                 self.once(rival)
             });
@@ -91,6 +114,8 @@ impl Prepared {
             whole,
             lexing,
             vec,
+            lex,
+            text,
         }
     }
 
@@ -102,6 +127,8 @@ impl Prepared {
             Rival::Whole => time(|| Parser::new(self.text, self.spec.clone()).parse()),
             Rival::Lexing => time(|| lex(self.text, self.spec.clone())),
             Rival::Vec => time(|| insert_all(&mut self.rows, &self.insertions)),
+            Rival::Lex => time(|| self.from_text.tokenise()),
+            Rival::Text => time(|| self.from_text.run(&mut self.tree, &mut self.dropped)),
         }
     }
 }

@@ -1,11 +1,11 @@
-//! Tables that no lexer makes, and rows that no run gives: `hostile CASES SEED [bare]`, so
-//! many of each. With `bare` nothing lies around the lent buffers, for a tool that watches
-//! memory.
+//! Tables that no lexer makes, rows that no run gives, and any bytes as a text: `hostile CASES
+//! SEED [bare]`, so many of each. With `bare` nothing lies around the lent buffers, for a tool
+//! that watches memory.
 
 use std::process::ExitCode;
 
 use cases::dice::Dice;
-use hostile::{by_port, difference, smallest, Answers, Around, Case, Rows};
+use hostile::{by_port, difference, smallest, Answers, Around, Case, Formula, Rows};
 
 fn main() -> ExitCode {
     let words: Vec<String> = std::env::args().skip(1).collect();
@@ -17,7 +17,8 @@ fn main() -> ExitCode {
     };
     match (count, seed) {
         (Ok(count), Ok(seed)) if count > 0 => {
-            let differ = ask(count, seed) + compare(count, seed, around);
+            let asked = ask(count, seed) + cut(count, seed, around);
+            let differ = asked + compare(count, seed, around);
             println!("{count} cases, {differ} differ");
             ExitCode::from(u8::from(differ > 0))
         }
@@ -54,6 +55,42 @@ fn count_yes(yes: &mut [usize; 5], answers: &Answers) {
     for (yes, &said) in yes.iter_mut().zip(answers) {
         *yes += usize::from(said);
     }
+}
+
+/// Cuts so many texts into tokens, and says how many differ.
+fn cut(count: usize, seed: u64, around: Around) -> usize {
+    let mut dice = Dice::new(seed.wrapping_add(1));
+    let [mut written, mut tokens, mut one, mut eleven, mut differ] = [0; 5];
+    for _ in 0..count {
+        let formula = Formula::by_chance(&mut dice);
+        match formula.difference(&mut dice, around, &port::tokenise) {
+            Ok(Ok(rows)) => {
+                written += 1;
+                tokens += rows;
+            }
+            Ok(Err(refusal)) if refusal.number == 1 => one += 1,
+            Ok(Err(_)) => eleven += 1,
+            Err(_) => {
+                differ += 1;
+                show_formula(formula, around);
+            }
+        }
+    }
+    println!(
+        "texts of {count} formulas: {written} written, {tokens} tokens, {one} refused 1, {eleven} refused 11"
+    );
+    differ
+}
+
+/// Prints the smallest text that still differs, with both answers.
+fn show_formula(formula: Formula, around: Around) {
+    let says = |formula: &Formula| {
+        let came = formula.difference(&mut Dice::new(0), around, &port::tokenise);
+        came.err()
+    };
+    let formula = formula.smallest(&|formula| says(formula).is_some());
+    let said = says(&formula).unwrap_or_default();
+    println!("differs: {formula:?}\n{said}");
 }
 
 /// Runs so many tables, and says how many differ.

@@ -5,8 +5,8 @@ use sheet::{Shape, Tables, Token};
 use crate::kinds;
 use crate::refusal::{refuse, Step};
 
-const TEXT: usize = 65_535;
-const TOKENS: usize = 16_384;
+pub(crate) const TEXT: usize = 65_535;
+pub(crate) const TOKENS: usize = 16_384;
 const SHAPES: usize = 4_096;
 const STATES: usize = 4_096;
 

@@ -1,6 +1,7 @@
 //! Document 01's numbers of token kinds and tree kinds.
 
 pub const LINE_BREAK: u32 = 0;
+pub const WHITESPACE: u32 = 1;
 pub const LINE_COMMENT: u32 = 2;
 pub const LEFT_CURLY: u32 = 3;
 pub const LEFT_BRACKET: u32 = 4;
@@ -17,6 +18,7 @@ pub const APOSTROPHE: u32 = 14;
 pub const DITTO: u32 = 15;
 pub const SEMICOLON: u32 = 16;
 pub const HASH: u32 = 17;
+pub const ASTERISK: u32 = 18;
 pub const AT_SIGN: u32 = 19;
 pub const UNDERSCORE: u32 = 20;
 pub const WORD: u32 = 21;

@@ -1,5 +1,5 @@
-//! Document 01 as a plain program, with the fifth number that document 02 adds to a row and
-//! its strict question.
+//! Document 01 as a plain program, with the fifth number that document 02 adds to a row, its
+//! strict question and its tokeniser.
 //!
 //! It shares no code with the parser of mitex, so that holding the two against each other
 //! tests how the document is read. Where the document itself says that a routine is as the
@@ -8,6 +8,7 @@
 
 mod arguments;
 mod checks;
+mod commands;
 mod items;
 mod kinds;
 mod matcher;
@@ -17,9 +18,13 @@ mod refusal;
 mod rows;
 mod slip;
 mod stops;
+mod token_slip;
+mod tokens;
 
 pub use questions::{is_display, is_inline, is_valid, is_whole};
 pub use slip::Slip;
+pub use token_slip::TokenSlip;
+pub use tokens::tokenise;
 
 use reader::Reader;
 use rows::Rows;

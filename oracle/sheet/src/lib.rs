@@ -11,6 +11,6 @@ mod treelist;
 pub use answer::{Answer, Dropped, Row, FINISH, LEAF, START};
 pub use bytes::{Bytes, Unread};
 pub use listing::listing;
-pub use ran::{Counts, Ran, Refusal};
+pub use ran::{Counts, Ran, Refusal, Tokenised};
 pub use tables::{Shape, State, Tables, Token};
 pub use treelist::{SHEET_BYTES, TREE_ROWS};

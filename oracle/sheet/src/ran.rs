@@ -1,4 +1,5 @@
-//! What a run over lent buffers answers; the rows themselves stand in the buffers.
+//! What a run over lent buffers answers, and what a tokeniser does; the rows themselves stand
+//! in the buffers.
 
 /// How many rows were written.
 #[derive(Debug, Clone, Copy, PartialEq, Eq)]
@@ -15,3 +16,6 @@ pub struct Refusal {
 }
 
 pub type Ran = Result<Counts, Refusal>;
+
+/// So many token rows were written, or none.
+pub type Tokenised = Result<usize, Refusal>;

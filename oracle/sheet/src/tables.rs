@@ -22,6 +22,25 @@ pub struct Shape {
     pub value: u32,
 }
 
+impl Token {
+    /// So many numbers make a row.
+    pub const WIDTH: usize = 4;
+
+    /// The row of these numbers, in the order of the fields.
+    pub fn of(numbers: &[u32]) -> Self {
+        Token {
+            kind: numbers[0],
+            start: numbers[1],
+            len: numbers[2],
+            shape: numbers[3],
+        }
+    }
+
+    pub fn numbers(self) -> [u32; Token::WIDTH] {
+        [self.kind, self.start, self.len, self.shape]
+    }
+}
+
 /// For t, b and p the next state, or 0 for not accepted.
 pub type State = [u32; 3];
 
@@ -39,10 +58,7 @@ impl Tables {
     pub fn new(text: &[u8], tokens: &[Token], shapes: &[Shape], states: &[State]) -> Self {
         Self {
             text: text.to_vec(),
-            tokens: tokens
-                .iter()
-                .flat_map(|t| [t.kind, t.start, t.len, t.shape])
-                .collect(),
+            tokens: tokens.iter().flat_map(|token| token.numbers()).collect(),
             shapes: shapes
                 .iter()
                 .flat_map(|s| [s.class, s.form, s.value])
@@ -52,17 +68,11 @@ impl Tables {
     }
 
     pub fn token_count(&self) -> usize {
-        self.tokens.len() / 4
+        self.tokens.len() / Token::WIDTH
     }
 
     pub fn token(&self, index: usize) -> Token {
-        let row = &self.tokens[4 * index..4 * index + 4];
-        Token {
-            kind: row[0],
-            start: row[1],
-            len: row[2],
-            shape: row[3],
-        }
+        Token::of(&self.tokens[Token::WIDTH * index..])
     }
 
     pub fn tokens(&self) -> impl Iterator<Item = Token> + '_ {
