@@ -1,5 +1,5 @@
-/* Document 01's whole case, `\frac 1 2`, as tables through the C face: the listing that `treelist` prints for it, then each leaf's token and text,
- * two formulas' questions, and refusals. */
+/* Document 01's whole case, `\frac 1 2`, through the C face: its text cut into token rows, the listing that `treelist` prints for it, then each leaf's
+ * token and text, two formulas' questions, and refusals. */
 #include <inttypes.h>
 #include <stdio.h>
 #include <string.h>
@@ -9,9 +9,28 @@
 #define COUNT(a) (sizeof(a) / sizeof((a)[0]))
 
 static const char text[] = "\\frac 1 2";
-static const uint32_t tokens[] = {26, 0, 5, 1, 1, 5, 1, 0, 21, 6, 1, 0, 1, 7, 1, 0, 21, 8, 1, 0};
+static uint32_t tokens[5 * CARTGLAZE_TOKEN_ROW];
 static const uint32_t shapes[] = {1, 1, 2};
 static const uint32_t states[] = {0};  /* none: its length is given as 0 */
+
+/* The rows of the text. \frac is the first token, and gets the first shape: two arguments. */
+static bool cut(void)
+{
+    size_t first, second;
+    /* A number too few: nothing is written. */
+    if (!cartglaze_tokenise((const uint8_t *)text, strlen(text), tokens, COUNT(tokens) - 1, &first, &second)) {
+        printf("refused %zu %zu, %" PRIu32 "\n", first, second, tokens[0]);
+    }
+    if (!cartglaze_tokenise((const uint8_t *)text, strlen(text), tokens, COUNT(tokens), &first, &second)) {
+        return false;
+    }
+    tokens[3] = 1;
+    for (size_t token = 0; token < first; token++) {
+        const uint32_t *row = tokens + token * CARTGLAZE_TOKEN_ROW;
+        printf("token %" PRIu32 " %" PRIu32 " %" PRIu32 " %" PRIu32 "\n", row[0], row[1], row[2], row[3]);
+    }
+    return true;
+}
 
 static bool run(uint32_t *tree, size_t room, uint32_t *dropped, size_t *first, size_t *second)
 {
@@ -72,6 +91,9 @@ int main(void)
     uint32_t tree[11 * CARTGLAZE_TREE_ROW], dropped[15];
     size_t first, second;
 
+    if (!cut()) {
+        return 1;
+    }
     if (!run(tree, COUNT(tree), dropped, &first, &second)) {
         printf("refused %zu %zu\n", first, second);
         return 1;
