@@ -1,14 +1,18 @@
--- The token in front is the longest match: no pattern matches longer than the one that was taken. Assumes nothing.
+-- The token in front is the longest match: no pattern matches longer than the one that was taken, and no token is shorter than its pattern. Assumes
+-- nothing.
 use Prim.Native.Nat.{ℕ, zero, suc, _≤_, _<_}
-use mathlib.Core.Path.{_≡_, sym, ap, _∙_}
+use mathlib.Core.Path.{_≡_, refl, sym, ap, _∙_}
 use mathlib.Core.Bool.{Bool, true, false, cond, _||_, false≢true}
-use mathlib.Core.List.{List, [], _∷_}
+use mathlib.Core.List.{List, [], _∷_, _++_}
 use native.Mathlib.Omega.{arith}
 use lib.Dec.{eqb, ltb}
-use lib.ListN.{getD}
+use lib.ListN.{getD, take}
 use borrow.Author.Tests.{ltb-true, ltb-false, eqb-true}
-use Rattle.rules.specs.Patterns.{Pattern, patterns, beats, bestOf, noPattern, patternOf}
+use Rattle.rules.specs.Patterns.{Pattern, patterns, beats, bestOf, noPattern, patternOf, inFront}
+use Rattle.rules.specs.Token
+use Rattle.rules.specs.Tokeniser.{lexeme}
 use Rattle.rules.proofs.Characters.{either}
+use Rattle.rules.proofs.LexemeSizes.{sized}
 
 module _ (left : List ℕ) where
   abbrev size : Pattern → ℕ
@@ -60,3 +64,46 @@ module _ (left : List ℕ) where
   pub longest : (k : ℕ) → getD patterns k noPattern .matched left ≤ patternOf left .matched left
   unfolding patternOf
   longest k = as-each patterns noPattern k
+
+  -- ---- a command's pattern is the backslash alone
+  abbrev Short : Pattern → Type 0
+  Short p = eqb (p .kind) Token.Generic ≡ true → size p ≤ 1
+
+  abbrev noCommand : List Pattern → Bool
+  noCommand [] = true
+  noCommand (p ∷ more) = cond (eqb (p .kind) Token.Generic) false (noCommand more)
+
+  abbrev backslash : Pattern
+  backslash = getD patterns 24 noPattern
+
+  backslash-short : Short backslash
+  backslash-short is = either (inFront (0x5C ∷ []) left) (λ t. rw t (omega arith)) (λ f. rw f (omega arith))
+
+  one-of : (b : Bool) (p best : Pattern) → Short p → Short best → Short (cond b p best)
+  one-of true p best this that = this
+  one-of false p best this that = that
+
+  best-short : (more : List Pattern) (best : Pattern) → noCommand more ≡ true → Short best → Short (bestOf left best (more ++ (backslash ∷ [])))
+  best-short [] best none short = one-of (beats left backslash best) backslash best backslash-short short
+  best-short (p ∷ more) best none short =
+      either (eqb (p .kind) Token.Generic) (λ t. absurd (false≢true (rw t at none)))
+      (λ f.
+      let other : Short p = λ is. absurd (false≢true (sym f ∙ is)) in
+      best-short more (cond (beats left p best) p best) (rw f at none) (one-of (beats left p best) p best other short))
+
+  command-short : Short (patternOf left)
+  unfolding patternOf
+  command-short = best-short (take 24 patterns) noPattern refl (λ is. absurd (false≢true is))
+
+by-pattern : (left : List ℕ) → eqb (patternOf left .kind) Token.Generic ≡ false → lexeme left .size ≡ patternOf left .matched left
+unfolding lexeme
+by-pattern left other = rw other
+
+-- "the longest match": no pattern matches more of what is left than the token's source range has
+pub token-longest : (byte : ℕ) (left : List ℕ) (k : ℕ) → getD patterns k noPattern .matched (byte ∷ left) ≤ lexeme (byte ∷ left) .size
+token-longest byte left k =
+    let all = byte ∷ left in
+    let most = longest all k in
+    either (eqb (patternOf all .kind) Token.Generic)
+    (λ t. omega (arith, most, command-short all t, sized left byte .some))
+    (λ f. omega (arith, most, by-pattern all f))
