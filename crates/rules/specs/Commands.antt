@@ -5,7 +5,7 @@ use Prim.Native.String.{String}
 use mathlib.Core.Bool.{Bool, cond, _&&_, _||_}
 use mathlib.Core.List.{List, [], _∷_}
 use lib.Dec.{eqb}
-use lib.ListN.{length, take, drop}
+use lib.ListN.{length, drop}
 use Rattle.rules.specs.Characters.{within}
 use Rattle.rules.specs.Notation.{bytes}
 use Rattle.rules.specs.Patterns.{Class, run, inFront}

@@ -1,4 +1,4 @@
--- What a reader must believe: document 01 as definitions. Nothing here speaks of a Rattle type.
+-- What a reader must believe: documents 01 and 02 as definitions. Nothing here speaks of a Rattle type.
 pub mod Token
 pub mod SyntaxKind
 pub mod Limits

@@ -3,7 +3,7 @@
 use Prim.Native.Nat.{ℕ, suc, _+_}
 use mathlib.Core.Bool.{Bool, true, false, not, cond, _&&_, _||_}
 use Prim.Native.String.{String}
-use mathlib.Core.List.{List, [], _∷_, _++_}
+use mathlib.Core.List.{List, [], _∷_}
 use lib.Dec.{eqb, ltb}
 use lib.ListN.{length, drop}
 use Rattle.rules.specs.Notation.{bytes}
@@ -118,7 +118,7 @@ abbrev pub bestOf : List ℕ → Pattern → List Pattern → Pattern
 bestOf left best [] = best
 bestOf left best (p ∷ more) = bestOf left (cond (beats left p best) p best) more
 
--- "Macro error": what matches nothing
+-- before any is looked at: it matches nothing, so each that matches beats it
 abbrev pub noPattern : Pattern
 noPattern = record { kind = Token.Error; priority = 0; matched = λ left. 0 }
 

@@ -1,7 +1,7 @@
 -- From formula text to token rows (02, #103): the tokens of a text, one behind the other, and what the lent rows hold afterwards.
-use Prim.Native.Nat.{ℕ, zero, suc, _+_, _*_, _<_}
+use Prim.Native.Nat.{ℕ, zero, suc, _+_, _*_, _≤_, _<_}
 use mathlib.Core.Path.{_≡_}
-use mathlib.Core.Bool.{Bool, not, cond, _&&_, _||_}
+use mathlib.Core.Bool.{Bool, cond, _&&_, _||_}
 use mathlib.Core.List.{List, [], _∷_, _++_}
 use mathlib.Core.Option.{Option, none, some}
 use lib.Dec.{eqb, leb, ltb}
@@ -10,7 +10,7 @@ use Rattle.rules.specs.Checks.{firstBad}
 use Rattle.rules.specs.Commands.{nameSize, kindOf, inBraces, withName, takesName}
 use Rattle.rules.specs.Limits
 use Rattle.rules.specs.Notation.{bytes}
-use Rattle.rules.specs.Patterns.{patternOf}
+use Rattle.rules.specs.Patterns.{patterns, noPattern, patternOf}
 use Rattle.rules.specs.Run.{over}
 use Rattle.rules.specs.Tables.{tokenCount, kindAt, startAt, lengthAt, part}
 use Rattle.rules.specs.Token
@@ -30,7 +30,7 @@ plain kind size = record { kind = kind; size = size; lead = 0; length = size }
 
 -- a \begin or \end of so many bytes, behind which a name of so many stands in braces
 abbrev pub environment : ℕ → ℕ → ℕ → Lexeme
-environment kind command name = record { kind = withName kind; size = command + 1 + name + 1; lead = command + 1; length = name }
+environment kind word name = record { kind = withName kind; size = word + 1 + name + 1; lead = word + 1; length = name }
 
 -- a backslash and its name
 abbrev pub command : List ℕ → Lexeme
@@ -91,6 +91,15 @@ pub data Tiles (tokens : List ℕ) (end : ℕ) : ℕ → ℕ → Type 0 where
   next : {i at : ℕ} → i < tokenCount tokens → startAt tokens i ≡ at + length (opening (kindAt tokens i)) → at < sourceEnd tokens i
       → Tiles tokens end (i + 1) (sourceEnd tokens i)
       → Tiles tokens end i at
+
+-- each token is the longest match at its place: from the i-th row on, each is the rules' token where its source range begins, and no pattern matches
+-- past the range's end
+pub data Longest (text tokens : List ℕ) : ℕ → ℕ → Type 0 where
+  done : {i at : ℕ} → i ≡ tokenCount tokens → Longest text tokens i at
+  next : {i at : ℕ} → kindAt tokens i ≡ lexeme (drop at text) .kind → sourceEnd tokens i ≡ at + lexeme (drop at text) .size
+      → ((k : ℕ) → at + getD patterns k noPattern .matched (drop at text) ≤ sourceEnd tokens i)
+      → Longest text tokens (i + 1) (sourceEnd tokens i)
+      → Longest text tokens i at
 
 -- ---- the answer
 

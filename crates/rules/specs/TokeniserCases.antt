@@ -1,4 +1,4 @@
--- Formula texts and their tokens: the corner cases of 02's #103, as one table, and one theorem over it that antt computes; and what is refused.
+-- Formula texts and their tokens: the corner cases of 02's #103, as one table, and one theorem over it that antt computes; and what is answered.
 use Prim.Native.Nat.{ℕ, _-_}
 use mathlib.Core.Path.{_≡_, refl}
 use mathlib.Core.List.{List, [], _∷_, _++_, map}
@@ -7,7 +7,7 @@ use Rattle.rules.specs.Checks
 use Rattle.rules.specs.Commands
 use Rattle.rules.specs.Notation.{Part, _of_, between, bytes, textOf, rowsFrom}
 use Rattle.rules.specs.Patterns
-use Rattle.rules.specs.Token.{LineBreak, Whitespace, LineComment, LeftCurly, RightCurly, LeftBracket, RightBracket, Ampersand, Caret, Comma, Asterisk, AtSign, Underscore, Word, Dollar, NewLine, Error, Generic, BeginEnvironment, EndEnvironment, BeginMath, EndMath, ErrorBeginEnvironment, ErrorEndEnvironment, IfFalse, IfTypst, If, Else, EndIf, Left, Right}
+use Rattle.rules.specs.Token.{LineBreak, Whitespace, LineComment, LeftCurly, LeftBracket, LeftParen, RightCurly, RightBracket, RightParen, Comma, Tilde, Slash, Ampersand, Caret, Apostrophe, Ditto, Semicolon, Hash, Asterisk, AtSign, Underscore, Word, Dollar, NewLine, Error, Generic, BeginEnvironment, EndEnvironment, BeginMath, EndMath, ErrorBeginEnvironment, ErrorEndEnvironment, IfFalse, IfTypst, If, Else, EndIf, Left, Right}
 use Rattle.rules.specs.Tokeniser
 use Rattle.rules.specs.Tokeniser.{Tokenised, written, refusedAt}
 
@@ -49,24 +49,28 @@ cases =
     -- the longest match
     ∷ (Dollar of "$$" ∷ Dollar of "$" ∷ [])
     ∷ (LineComment of "%c" ∷ [])
+    ∷ (LineComment of "%c" ∷ LineBreak of "\n" ∷ LineComment of "%" ∷ LineBreak of "\r" ∷ [])
     ∷ (LineComment of "%$\\" ∷ LineBreak of "\r\n\n" ∷ Word of "a" ∷ [])
     ∷ (Word of "a" ∷ Underscore of "_" ∷ Word of "b1" ∷ Caret of "^" ∷ Word of "+:2" ∷ Comma of "," ∷ Ampersand of "&" ∷ Whitespace of " \t " ∷ [])
+    ∷ (LeftParen of "(" ∷ RightParen of ")" ∷ LeftBracket of "[" ∷ RightBracket of "]" ∷ LeftCurly of "{" ∷ RightCurly of "}" ∷ Comma of "," ∷ [])
+    ∷ (Tilde of "~" ∷ Slash of "/" ∷ Ampersand of "&" ∷ Caret of "^" ∷ Apostrophe of "'" ∷ Ditto of "\"" ∷ Semicolon of ";" ∷ Hash of "#" ∷ [])
+    ∷ (Asterisk of "*" ∷ AtSign of "@" ∷ Underscore of "_" ∷ [])
     ∷ []
 
 pub examples : map (λ (parts : List Part). Tokeniser.tokenRows (textOf parts)) cases ≡ map (λ (parts : List Part). rowsFrom 0 parts) cases
 unfolding Patterns.run Patterns.patternOf Commands.spelled Commands.kindOf Commands.inBraces Tokeniser.lexeme Tokeniser.lexemes Tokeniser.tokenRows
 examples = refl
 
--- ---- what is refused: a text, how many numbers are lent, and the answer. Each number that is lent is a 7
-pub record Refused : Type 0 where
+-- ---- what is answered: a text, how many numbers are lent, and the answer. Each number that is lent is a 7
+pub record Lent : Type 0 where
   pub text : List ℕ
   pub lent : ℕ
   pub answer : Tokenised
   -- what the lent numbers hold first
   pub rows : List ℕ
 
-abbrev pub refusals : List Refused
-refusals =
+abbrev pub answers : List Lent
+answers =
     -- "11, a byte over 127, place its offset", before there is too little room; bytes 00 to 08, 0E to 1F and 7F are a Word's
     record { text = bytes "ab" ++ (200 ∷ []); lent = 0; answer = refusedAt 11 2; rows = [] }
     ∷ record { text = bytes "a" ++ (128 ∷ 255 ∷ []); lent = 4; answer = refusedAt 11 1; rows = [] }
@@ -79,12 +83,12 @@ refusals =
     ∷ record { text = []; lent = 0; answer = written 0; rows = [] }
     ∷ []
 
-abbrev pub outcome : Refused → Tokenised × List ℕ
+abbrev pub outcome : Lent → Tokenised × List ℕ
 outcome r = Tokeniser.tokenise (r .text) (replicate (r .lent) 7)
 
-abbrev pub expected : Refused → Tokenised × List ℕ
+abbrev pub expected : Lent → Tokenised × List ℕ
 expected r = (r .answer, r .rows ++ replicate (r .lent - length (r .rows)) 7)
 
-pub refused-examples : map outcome refusals ≡ map expected refusals
+pub answered-examples : map outcome answers ≡ map expected answers
 unfolding Checks.firstBad Patterns.run Patterns.patternOf Commands.spelled Commands.kindOf Commands.inBraces Tokeniser.lexeme Tokeniser.lexemes Tokeniser.tokenRows Tokeniser.tokenise
-refused-examples = refl
+answered-examples = refl
