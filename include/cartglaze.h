@@ -9,8 +9,8 @@
  *   - A pointer to a single result (`size_t *`) is not null, and is aligned too.
  *   - What is written to overlaps nothing else that is passed: `tokens` of cartglaze_tokenise, `tree`, `dropped`, `numbers`, `out` and each single
  *     result.
- * Nothing more: any bytes may stand in a text and in a sheet, and any numbers in the tables and in the rows. The contracts are proved for callers that keep to
- * this.
+ * Nothing more: any bytes may stand in a text and in a sheet, and any numbers in the tables and in the rows. The contracts are proved for callers that
+ * keep to this.
  *
  * Stack: a run takes more the more nodes are open, and no more than 128 ever are. Formulas with so many were read on a thread with a stack of
  * 304 KiB, and not on one with 4 KiB less; the thread's own start takes a part of it. That is measured, on x86-64, and not proved; `make bench`
@@ -51,8 +51,9 @@ extern "C" {
  *       CARTGLAZE_TOKEN_ROW numbers lent for each token
  * There are no more tokens than bytes, so CARTGLAZE_TOKEN_ROW numbers a byte are always enough, and CARTGLAZE_TOKEN_ROW * 16384 are too.
  *
- * A row's text is its part of `text`; the text of \begin{name} and \end{name} (27 and 28) is the name alone. What it gives of a text is never
- * refused 3 by cartglaze_run with the same text. The same text and length of `tokens` always give the same result. */
+ * A row's text is its part of `text`; the text of \begin{name} and \end{name} (27 and 28) is the name alone. The rows as they are written, *first times
+ * CARTGLAZE_TOKEN_ROW numbers, are never refused 3 by cartglaze_run with the same text; a shape number that the caller sets is judged as ever. The same
+ * text and length of `tokens` always give the same result. */
 bool cartglaze_tokenise(const uint8_t *text, size_t text_length, uint32_t *tokens, size_t tokens_length, size_t *first, size_t *second);
 
 /* So many numbers make a tree row. A tree buffer is so many rows: its length divided by this, rounded down. What is left over behind the last whole

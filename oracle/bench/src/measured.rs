@@ -16,9 +16,9 @@ pub struct Measured {
     pub lexing: Duration,
     pub vec: Duration,
     /// The port's tokeniser.
-    pub lex: Duration,
+    pub tokenising: Duration,
     /// The port from the text to the tree.
-    pub text: Duration,
+    pub from_text: Duration,
 }
 
 impl Measured {
@@ -43,12 +43,12 @@ impl Measured {
 
     /// The tokeniser to the Rust's lexer.
     pub fn lex_to_mitex(&self) -> f64 {
-        self.lex.as_secs_f64() / self.lexing.as_secs_f64()
+        self.tokenising.as_secs_f64() / self.lexing.as_secs_f64()
     }
 
     /// From the text to the tree, to the Rust's parser with its lexer.
     pub fn text_to_mitex(&self) -> f64 {
-        self.text.as_secs_f64() / self.whole.as_secs_f64()
+        self.from_text.as_secs_f64() / self.whole.as_secs_f64()
     }
 
     /// Nanoseconds a token.
@@ -66,8 +66,8 @@ impl fmt::Display for Measured {
             self.whole,
             self.lexing,
             self.vec,
-            self.lex,
-            self.text,
+            self.tokenising,
+            self.from_text,
         ];
         for time in times {
             write!(f, " {:8.2}", self.per_token(time))?;

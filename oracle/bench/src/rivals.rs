@@ -26,10 +26,10 @@ pub enum Rival {
     Lexing,
     Vec,
     /// The port's tokeniser.
-    Lex,
+    Tokenising,
     /// The port from the text to the tree: its tokeniser, shape numbers from a list that was
     /// made before, and its run.
-    Text,
+    FromText,
 }
 
 impl Rival {
@@ -39,8 +39,8 @@ impl Rival {
         ("whole", Rival::Whole),
         ("lexing", Rival::Lexing),
         ("vec", Rival::Vec),
-        ("lex", Rival::Lex),
-        ("text", Rival::Text),
+        ("lex", Rival::Tokenising),
+        ("text", Rival::FromText),
     ];
 }
 
@@ -102,7 +102,7 @@ impl Prepared {
 
     /// The least times of all rivals.
     pub fn measure(&mut self, span: Duration) -> Measured {
-        let [port, mitex, whole, lexing, vec, lex, text] =
+        let [port, mitex, whole, lexing, vec, tokenising, from_text] =
             least(span, Rival::ALL.map(|(_, rival)| rival), |rival| {
                 self.once(rival)
             });
@@ -114,8 +114,8 @@ impl Prepared {
             whole,
             lexing,
             vec,
-            lex,
-            text,
+            tokenising,
+            from_text,
         }
     }
 
@@ -127,8 +127,8 @@ impl Prepared {
             Rival::Whole => time(|| Parser::new(self.text, self.spec.clone()).parse()),
             Rival::Lexing => time(|| lex(self.text, self.spec.clone())),
             Rival::Vec => time(|| insert_all(&mut self.rows, &self.insertions)),
-            Rival::Lex => time(|| self.from_text.tokenise()),
-            Rival::Text => time(|| self.from_text.run(&mut self.tree, &mut self.dropped)),
+            Rival::Tokenising => time(|| self.from_text.tokenise()),
+            Rival::FromText => time(|| self.from_text.run(&mut self.tree, &mut self.dropped)),
         }
     }
 }

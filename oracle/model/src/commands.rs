@@ -17,14 +17,16 @@ pub(crate) fn command(left: &[u8], slip: Option<TokenSlip>) -> Option<Match> {
     let behind = left.strip_prefix(br"\")?;
     let letters = run(behind, |byte| byte.is_ascii_alphabetic());
     let mut name = letters.max(behind.len().min(1));
-    if slip == Some(TokenSlip::BlankIsNoName) && matches!(behind, [9..=13 | b' ', ..]) {
+    let white = matches!(behind, [9..=13 | b' ', ..]);
+    if slip == Some(TokenSlip::BlankIsNoName) && white {
         name = 0;
     }
     if slip == Some(TokenSlip::SpellingInFront) && behind.starts_with(b"iffalse") {
         name = 7;
     }
     let kind = match slip {
-        Some(TokenSlip::BlankIsNoName) if name == 0 && !behind.is_empty() => GENERIC,
+        Some(TokenSlip::BlankIsNoName) if white => GENERIC,
+        Some(TokenSlip::BlankNameIsWord) if white => WORD,
         Some(TokenSlip::IfStarIsGeneric) if &behind[..name] == b"ifstar" => GENERIC,
         _ => spelled(&behind[..name]),
     };

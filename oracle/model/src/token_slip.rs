@@ -16,6 +16,8 @@ pub enum TokenSlip {
     CommentTakesBreak,
     /// `\` before a white byte stands alone, as the repository's lexer has it.
     BlankIsNoName,
+    /// `\` with a white byte is a Word: wrong only where the repository's lexer differs too.
+    BlankNameIsWord,
     /// `\ifstar` is Generic, as the repository's lexer has it.
     IfStarIsGeneric,
     /// `\iffalsex` is `\iffalse` and more.
@@ -44,13 +46,14 @@ pub enum TokenSlip {
 
 impl TokenSlip {
     /// The slips that show on ASCII text.
-    pub const IN_ASCII: [TokenSlip; 16] = [
+    pub const IN_ASCII: [TokenSlip; 17] = [
         TokenSlip::ShortWord,
         TokenSlip::OneDollar,
         TokenSlip::OneBreak,
         TokenSlip::VerticalTabInWord,
         TokenSlip::CommentTakesBreak,
         TokenSlip::BlankIsNoName,
+        TokenSlip::BlankNameIsWord,
         TokenSlip::IfStarIsGeneric,
         TokenSlip::SpellingInFront,
         TokenSlip::EmptyName,

@@ -142,7 +142,7 @@ fn shows(slip: TokenSlip) -> (Vec<u8>, usize) {
         TokenSlip::OneBreak => (b"\n\n", 8),
         TokenSlip::VerticalTabInWord => (b"\x0b", 4),
         TokenSlip::CommentTakesBreak => (b"%\n", 8),
-        TokenSlip::BlankIsNoName => (b"\\ ", 8),
+        TokenSlip::BlankIsNoName | TokenSlip::BlankNameIsWord => (b"\\ ", 8),
         TokenSlip::IfStarIsGeneric => (br"\ifstar", 4),
         TokenSlip::SpellingInFront => (br"\iffalsex", 8),
         TokenSlip::EmptyName => (br"\begin{}", 12),
