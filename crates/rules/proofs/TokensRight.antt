@@ -8,7 +8,7 @@ use mathlib.Core.Option.{none}
 use native.Mathlib.Omega.{arith}
 use lib.Dec.{eqb, ltb}
 use lib.ListN.{length, getD, take, drop}
-use borrow.Author.Tests.{eqb-true, eqb-false, lt-ltb, le-leb, ltb-true, ltb-false, ne-eqb}
+use borrow.Author.Tests.{eqb-true, eqb-false, lt-ltb, le-leb, ltb-true, ne-eqb}
 use Rattle.rules.specs.Characters.{charLength, isUtf8}
 use Rattle.rules.specs.Checks.{Tables, shapeCount, firstBad, wordRight, tokenRight}
 use Rattle.rules.specs.Commands.{nameSize, kindOf, inBraces, takesName}
@@ -18,8 +18,8 @@ use Rattle.rules.specs.Token
 use Rattle.rules.specs.Tokeniser.{Lexeme, plain, environment, command, lexeme, tokenRows}
 use Rattle.rules.proofs.Characters.{either, utf8-rest, utf8-nothing}
 use Rattle.rules.proofs.LexemeSizes.{Front, matched, named, fronts, Sized}
-use Rattle.rules.proofs.Tiled.{Stand, count, kind-is, start-is, length-is, shape-is, stand-next}
-use Rattle.rules.proofs.TokensOf.{first, size-at, tokens-at, none-left}
+use Rattle.rules.proofs.Tiled.{Stand, kind-is, start-is, length-is, shape-is, rest-is, walk}
+use Rattle.rules.proofs.TokensOf.{first, size-at}
 use Rattle.rules.proofs.Spellings.{kind-passes, other-kind}
 
 -- ---- ASCII bytes are characters
@@ -120,32 +120,25 @@ module _ (t : Tables) (low : Low (t .text)) where
   unfolding firstBad
   goes-on n i right = rw right
 
-  at-end : {i at : ℕ} → Stand (t .text) (t .tokens) i at → at ≡ length (t .text) → firstBad (tokenRight t) (tokenCount (t .tokens) - i) i ≡ none
-  unfolding firstBad
-  at-end {i} {at} stand end =
-      let past : length (t .text) ≤ at = omega (arith, end) in
-      let none-more : tokenCount (t .tokens) - i ≡ 0 = omega (arith, count (t .text) stand, ap length (none-left (t .text) at past)) in
-      ap (λ (n : ℕ). firstBad (tokenRight t) n i) none-more
+  abbrev NoneFrom : ℕ → ℕ → Type 0
+  NoneFrom i at = firstBad (tokenRight t) (tokenCount (t .tokens) - i) i ≡ none
 
-  none-bad : (most : ℕ) {i at : ℕ} → Stand (t .text) (t .tokens) i at → at ≤ length (t .text) → length (t .text) - at ≤ most
-      → firstBad (tokenRight t) (tokenCount (t .tokens) - i) i ≡ none
-  none-bad zero stand inside few = at-end stand (omega arith)
-  none-bad (suc most) {i} {at} stand inside few =
-      either (ltb at (length (t .text)))
-      (λ b.
-      let here = ltb-true at (length (t .text)) b in
-      let sized = size stand here in
-      let some = ap length (tokens-at (t .text) at here) in
-      let left : tokenCount (t .tokens) - i ≡ suc (tokenCount (t .tokens) - (i + 1)) = omega (arith, count (t .text) stand, some) in
-      ap (λ (n : ℕ). firstBad (tokenRight t) n i) left
+  none-more : (i at : ℕ) → i ≡ tokenCount (t .tokens) → at ≡ length (t .text) → NoneFrom i at
+  unfolding firstBad
+  none-more i at all end =
+      let nothing : tokenCount (t .tokens) - i ≡ 0 = omega (arith, all) in
+      ap (λ (n : ℕ). firstBad (tokenRight t) n i) nothing
+
+  one-more : (i at : ℕ) → Stand (t .text) (t .tokens) i at → at < length (t .text) → NoneFrom (i + 1) (at + lexeme (drop at (t .text)) .size)
+      → NoneFrom i at
+  one-more i at stand here rest =
+      ap (λ (n : ℕ). firstBad (tokenRight t) n i) (rest-is (t .text) stand here)
       ∙ goes-on (tokenCount (t .tokens) - (i + 1)) i (row-right stand here)
-      ∙ none-bad most (stand-next (t .text) stand here) (omega (arith, sized .fits)) (omega (arith, sized .some)))
-      (λ f. at-end stand (omega (arith, ltb-false at (length (t .text)) f)))
+      ∙ rest
 
 -- "Word empty or not UTF-8", and the rest of refusal 3, never come of what a text of ASCII bytes is cut into, whatever shapes there are
 pub rows-right : (t : Tables) → Low (t .text) → t .tokens ≡ tokenRows (t .text) → firstBad (tokenRight t) (tokenCount (t .tokens)) 0 ≡ none
-unfolding tokenRows
 rows-right t low are =
     let whole : tokenCount (t .tokens) - 0 ≡ tokenCount (t .tokens) = omega arith in
     ap (λ (n : ℕ). firstBad (tokenRight t) n 0) (sym whole)
-    ∙ none-bad t low (length (t .text)) {i = 0} {at = 0} (record { front = []; is = are; long = refl }) (omega arith) (omega arith)
+    ∙ walk (t .text) (t .tokens) (NoneFrom t low) (none-more t low) (one-more t low) are
