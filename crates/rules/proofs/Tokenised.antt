@@ -2,14 +2,14 @@
 -- `tokenise` answered tells that the text is such and where its rows stand. Assumes nothing.
 use Prim.Native.Nat.{ℕ, suc, _+_, _*_, _≤_, _<_}
 use mathlib.Core.Path.{_≡_, refl, ap, _∙_}
-use mathlib.Core.Bool.{not}
+use mathlib.Core.Bool.{not, and-false}
 use mathlib.Core.List.{List, [], _∷_}
 use mathlib.Core.Option.{Option, none, some}
 use native.Mathlib.Omega.{arith}
-use lib.Dec.{ltb}
+use lib.Dec.{leb, ltb}
 use lib.ListN.{length, getD, take, drop}
 use lib.Seq.{take-at}
-use borrow.Author.Tests.{leb-true}
+use borrow.Author.Tests.{leb-true, lt-leb}
 use Rattle.rules.specs.Checks.{Tables, Refusal, shapeCount, stateCount, firstBad, withinLimits, tokenRight, shapeOrStateRight, at, checks, sourceOf}
 use Rattle.rules.specs.Flat.{Built, Mark, flat, empty}
 use Rattle.rules.specs.Limits
@@ -19,7 +19,7 @@ use Rattle.rules.specs.Reading.{parse}
 use Rattle.rules.specs.Run.{Answer, accepted, refusedAt, afterReading, afterChecks, run}
 use Rattle.rules.specs.Tables.{tokenCount}
 use Rattle.rules.specs.Tokeniser as tokeniser
-use Rattle.rules.specs.Tokeniser.{Tokenised, written, isAscii, tokensOf, tokenRows, judged, tokenise, fits}
+use Rattle.rules.specs.Tokeniser.{Tokenised, written, notAscii, isAscii, tokensOf, tokenRows, judged, tokenise, fits}
 use Rattle.rules.proofs.Alike.{AnyKnown, known-refusals}
 use Rattle.rules.proofs.Characters.{either}
 use Rattle.rules.proofs.Checks.{all-right}
@@ -63,6 +63,22 @@ module _ (text buffer : List ℕ) {count : ℕ} where
   pub wrote : tokenise text buffer .0 ≡ written count → Wrote text count (tokenise text buffer .1)
   unfolding tokenise
   wrote = told (firstBad (isAscii text) (length text) 0) refl
+
+-- ---- the order of refusals, which texts small enough to be computed can't tell
+module _ (text buffer : List ℕ) where
+  -- a byte over 127 is told first, however long the text is and whatever room is lent
+  pub high-first : (place : ℕ) → firstBad (isAscii text) (length text) 0 ≡ some place
+      → tokenise text buffer ≡ (tokeniser.refusedAt notAscii place, buffer)
+  unfolding tokenise
+  high-first place is = ap (judged text buffer) is
+
+  -- more tokens than the limit are refused, whatever room is lent
+  pub many-refused : firstBad (isAscii text) (length text) 0 ≡ none → Limits.tokens < length (tokensOf text)
+      → tokenise text buffer ≡ (tokeniser.refusedAt 1 0, buffer)
+  unfolding tokenise
+  many-refused is many =
+      ap (judged text buffer) is
+      ∙ rw (lt-leb (length (tokensOf text)) Limits.tokens many, and-false (leb (length text) Limits.text))
 
 -- ---- the numbers of refusals, and 0 where nothing is refused
 abbrev numberOf : Answer → ℕ
