@@ -35,6 +35,7 @@ pub mod Simulation
 pub mod Table
 pub mod Turns
 pub mod Whole
+pub mod AllUnder
 pub mod Lexemes
 pub mod LexemeSizes
 pub mod TokensOf

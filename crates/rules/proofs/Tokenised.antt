@@ -20,17 +20,14 @@ use Rattle.rules.specs.Run.{Answer, accepted, refusedAt, afterReading, a
 use Rattle.rules.specs.Tables.{tokenCount}
 use Rattle.rules.specs.Tokeniser as tokeniser
 use Rattle.rules.specs.Tokeniser.{Tokenised, written, notAscii, isAscii, tokensOf, tokenRows, judged, tokenise, fits}
+use Rattle.rules.proofs.AllUnder.{AllUnder, by-place}
 use Rattle.rules.proofs.Alike.{AnyKnown, known-refusals}
 use Rattle.rules.proofs.Characters.{either}
 use Rattle.rules.proofs.Checks.{all-right}
 use Rattle.rules.proofs.Tiled.{rows-long}
-use Rattle.rules.proofs.TokensRight.{Low, no-byte, byte, rows-right}
+use Rattle.rules.proofs.TokensRight.{rows-right}
 
 -- ---- what `tokenise` answered
-
-low-where : (text : List ℕ) → ((i : ℕ) → i < length text → getD text i 0 ≤ 127) → Low text
-low-where [] each = no-byte
-low-where (b ∷ text) each = byte {b = b} (omega (arith, each 0 (omega arith))) (low-where text (λ i there. each (suc i) (omega arith)))
 
 abbrev countOf : Tokenised → ℕ
 countOf (written count) = count
@@ -38,7 +35,7 @@ countOf (tokeniser.refusedAt number place) = 0
 
 -- the text has ASCII bytes alone, and the rows that were written are in front
 pub record Wrote (text : List ℕ) (count : ℕ) (buffer : List ℕ) : Type 0 where
-  pub low : Low text
+  pub ascii : AllUnder 128 text
   pub rows : take (count * Limits.tokenWidth) buffer ≡ tokenRows text
 
 module _ (text buffer : List ℕ) {count : ℕ} where
@@ -52,10 +49,11 @@ module _ (text buffer : List ℕ) {count : ℕ} where
   told none is e =
       either (fits text (length buffer))
       (λ t.
+      let low : (i : ℕ) → i < length text → getD text i 0 ≤ 127 = λ i there. leb-true _ 127 (all-right (isAscii text) (length text) is i there) in
       let count-is : length (tokensOf text) ≡ count = ap countOf (rw t at e) in
       rw t
       (record {
-        low = low-where text (λ i there. leb-true (getD text i 0) 127 (all-right (isAscii text) (length text) is i there));
+        ascii = by-place 128 text (λ i there. omega (arith, low i there));
         rows = take-at (tokenRows text) (drop (length (tokenRows text)) buffer) (count * Limits.tokenWidth) (long count-is);
       }))
       (λ f. let refused = rw f at e in let z : _≡_ {A = ℕ} 0 1 = cc in absurd (omega arith))
@@ -115,9 +113,9 @@ module _ (t : Tables) (tree dropped : List ℕ) where
   checking none free = reading (parse (flat (length tree)) (sourceOf t) empty) (known-refusals (length tree) (sourceOf t))
   checking (some refusal) free = free
 
-  no-3 : {place : ℕ} → Low (t .text) → t .tokens ≡ tokenRows (t .text) → run t tree dropped .answer ≡ refusedAt 3 place → ⊥
+  no-3 : {place : ℕ} → AllUnder 128 (t .text) → t .tokens ≡ tokenRows (t .text) → run t tree dropped .answer ≡ refusedAt 3 place → ⊥
   unfolding run
-  no-3 low are e = checking (checks t (length dropped)) (no-row (rows-right t low are)) (ap numberOf e)
+  no-3 ascii are e = checking (checks t (length dropped)) (no-row (rows-right t ascii are)) (ap numberOf e)
 
   -- "what it gives passes rule 3": over the rows that were written of a text no run is refused 3, whatever shapes and states there are
   pub never-refused-3 :
@@ -126,4 +124,4 @@ module _ (t : Tables) (tree dropped : List ℕ) where
       → t .tokens ≡ take (count * Limits.tokenWidth) (tokenise (t .text) buffer .1)
       → run t tree dropped .answer ≡ refusedAt 3 place
       → ⊥
-  never-refused-3 buffer e are = let w = wrote (t .text) buffer e in no-3 (w .low) (are ∙ w .rows)
+  never-refused-3 buffer e are = let w = wrote (t .text) buffer e in no-3 (w .ascii) (are ∙ w .rows)

@@ -16,6 +16,7 @@ use Rattle.rules.specs.Limits
 use Rattle.rules.specs.Tables.{tokenCount, kindAt, startAt, lengthAt, shapeAt}
 use Rattle.rules.specs.Token
 use Rattle.rules.specs.Tokeniser.{Lexeme, plain, environment, command, lexeme, tokenRows}
+use Rattle.rules.proofs.AllUnder.{AllUnder, nothing, under, under-take, under-drop}
 use Rattle.rules.proofs.Characters.{either, utf8-rest, utf8-nothing}
 use Rattle.rules.proofs.LexemeSizes.{Front, matched, named, fronts, Sized}
 use Rattle.rules.proofs.Tiled.{Stand, kind-is, start-is, length-is, shape-is, rest-is, walk}
@@ -23,19 +24,15 @@ use Rattle.rules.proofs.TokensOf.{first, size-at}
 use Rattle.rules.proofs.Spellings.{kind-passes, other-kind}
 
 -- ---- ASCII bytes are characters
-pub data Low : List ℕ → Type 0 where
-  no-byte : Low []
-  byte : {b : ℕ} {bytes : List ℕ} → b < 128 → Low bytes → Low (b ∷ bytes)
-
 single : (b : ℕ) (bytes : List ℕ) → b < 128 → charLength (b ∷ bytes) ≡ 1
 unfolding charLength
 single b bytes low = rw (le-leb 0 b (omega arith), le-leb b 0x7F (omega arith))
 
-pub low-utf8 : {bytes : List ℕ} → Low bytes → isUtf8 bytes ≡ true
-low-utf8 no-byte = utf8-nothing
-low-utf8 (byte {b} {bytes} low rest) =
-    let one = single b bytes low in
-    utf8-rest (b ∷ bytes) (omega (arith, one)) ∙ ap (λ (n : ℕ). isUtf8 (drop n (b ∷ bytes))) one ∙ low-utf8 rest
+ascii-utf8 : {bytes : List ℕ} → AllUnder 128 bytes → isUtf8 bytes ≡ true
+ascii-utf8 nothing = utf8-nothing
+ascii-utf8 (under {x} {xs} low rest) =
+    let one = single x xs low in
+    utf8-rest (x ∷ xs) (omega (arith, one)) ∙ ap (λ (n : ℕ). isUtf8 (drop n (x ∷ xs))) one ∙ ascii-utf8 rest
 
 -- ---- a token's kind
 pub record Kind (token : Lexeme) : Type 0 where
@@ -69,19 +66,8 @@ by-front {b} {left} (named is-backslash is) = subst Kind (sym is) (of-command b 
 pub kinds : (left : List ℕ) (b : ℕ) → Kind (lexeme (b ∷ left))
 kinds left b = by-front (fronts left b)
 
--- ---- a part of ASCII bytes
-low-drop : (n : ℕ) {bytes : List ℕ} → Low bytes → Low (drop n bytes)
-low-drop zero low = low
-low-drop (suc n) no-byte = no-byte
-low-drop (suc n) (byte b rest) = low-drop n rest
-
-low-take : (n : ℕ) {bytes : List ℕ} → Low bytes → Low (take n bytes)
-low-take zero low = no-byte
-low-take (suc n) no-byte = no-byte
-low-take (suc n) (byte b rest) = byte b (low-take n rest)
-
 -- ---- refusal 3
-module _ (t : Tables) (low : Low (t .text)) where
+module _ (t : Tables) (ascii : AllUnder 128 (t .text)) where
   module _ {i at : ℕ} (stand : Stand (t .text) (t .tokens) i at) (here : at < length (t .text)) where
     abbrev token : Lexeme
     token = lexeme (drop at (t .text))
@@ -99,7 +85,7 @@ module _ (t : Tables) (low : Low (t .text)) where
         let long = length-is (t .text) stand here in
         rw (
           ne-eqb (lengthAt (t .tokens) i) 0 (λ empty. omega (arith, some, long, empty)),
-          low-utf8 (low-take (lengthAt (t .tokens) i) (low-drop (startAt (t .tokens) i) low)),
+          ascii-utf8 (under-take (lengthAt (t .tokens) i) (under-drop (startAt (t .tokens) i) ascii)),
         )
 
     row-right : tokenRight t i ≡ true
@@ -137,8 +123,8 @@ module _ (t : Tables) (low : Low (t .text)) where
       ∙ rest
 
 -- "Word empty or not UTF-8", and the rest of refusal 3, never come of what a text of ASCII bytes is cut into, whatever shapes there are
-pub rows-right : (t : Tables) → Low (t .text) → t .tokens ≡ tokenRows (t .text) → firstBad (tokenRight t) (tokenCount (t .tokens)) 0 ≡ none
-rows-right t low are =
+pub rows-right : (t : Tables) → AllUnder 128 (t .text) → t .tokens ≡ tokenRows (t .text) → firstBad (tokenRight t) (tokenCount (t .tokens)) 0 ≡ none
+rows-right t ascii are =
     let whole : tokenCount (t .tokens) - 0 ≡ tokenCount (t .tokens) = omega arith in
     ap (λ (n : ℕ). firstBad (tokenRight t) n 0) (sym whole)
-    ∙ walk (t .text) (t .tokens) (NoneFrom t low) (none-more t low) (one-more t low) are
+    ∙ walk (t .text) (t .tokens) (NoneFrom t ascii) (none-more t ascii) (one-more t ascii) are
