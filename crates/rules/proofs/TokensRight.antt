@@ -1,24 +1,24 @@
 -- What a text of ASCII bytes is cut into passes refusal 3: each kind is under 40, each token lies in the text, none has a shape, and a Word has at
 -- least one byte, which is a character. Assumes nothing.
-use Prim.Native.Nat.{ℕ, zero, suc, _+_, _-_, _≤_, _<_}
+use Prim.Native.Nat.{ℕ, suc, _+_, _-_, _≤_, _<_}
 use mathlib.Core.Path.{_≡_, refl, sym, ap, subst, _∙_}
-use mathlib.Core.Bool.{true, _&&_}
+use mathlib.Core.Bool.{true}
 use mathlib.Core.List.{List, [], _∷_}
 use mathlib.Core.Option.{none}
 use native.Mathlib.Omega.{arith}
 use lib.Dec.{eqb, ltb}
-use lib.ListN.{length, getD, take, drop}
+use lib.ListN.{length, getD, drop}
 use borrow.Author.Tests.{eqb-true, eqb-false, lt-ltb, le-leb, ltb-true, ne-eqb}
 use Rattle.rules.specs.Characters.{charLength, isUtf8}
 use Rattle.rules.specs.Checks.{Tables, shapeCount, firstBad, wordRight, tokenRight}
-use Rattle.rules.specs.Commands.{nameSize, kindOf, inBraces, takesName}
+use Rattle.rules.specs.Commands.{kindOf}
 use Rattle.rules.specs.Limits
 use Rattle.rules.specs.Tables.{tokenCount, kindAt, startAt, lengthAt, shapeAt}
 use Rattle.rules.specs.Token
-use Rattle.rules.specs.Tokeniser.{Lexeme, plain, environment, command, lexeme, tokenRows}
+use Rattle.rules.specs.Tokeniser.{Lexeme, plain, environment, lexeme, tokenRows}
 use Rattle.rules.proofs.AllUnder.{AllUnder, nothing, under, under-take, under-drop}
 use Rattle.rules.proofs.Characters.{either, utf8-rest, utf8-nothing}
-use Rattle.rules.proofs.LexemeSizes.{Front, matched, named, fronts, Sized}
+use Rattle.rules.proofs.LexemeSizes.{wordOf, sizeOf, wordKind, nameAfter, Front, matched, named, braced, fronts, Sized}
 use Rattle.rules.proofs.Tiled.{Stand, kind-is, start-is, length-is, shape-is, rest-is, walk}
 use Rattle.rules.proofs.TokensOf.{first, size-at}
 use Rattle.rules.proofs.Spellings.{kind-passes, other-kind}
@@ -39,29 +39,22 @@ pub record Kind (token : Lexeme) : Type 0 where
   pub small : token .kind < Limits.kinds
   pub word : token .kind ≡ Token.Word → 1 ≤ token .length
 
-of-name : (kind size : ℕ) → kind < Limits.kinds → (kind ≡ Token.Word → ⊥) → Kind (plain kind size)
-of-name kind size small no-word = record { small = small; word = λ is. absurd (no-word is) }
+of-name : (word : List ℕ) (size : ℕ) → Kind (plain (kindOf word) size)
+of-name word size =
+    record {
+      small = ltb-true (kindOf word) Limits.kinds (kind-passes (λ (n : ℕ). ltb n Limits.kinds) word refl);
+      word = λ is. absurd (eqb-false (kindOf word) Token.Word (other-kind Token.Word word refl) is);
+    }
 
 of-braces : (kind size name : ℕ) → Kind (environment kind size name)
 of-braces kind size name =
     either (eqb kind Token.ErrorBeginEnvironment) (λ t. rw t (record { small = omega arith; word = λ is. absurd (omega (arith, is)) }))
     (λ f. rw f (record { small = omega arith; word = λ is. absurd (omega (arith, is)) }))
 
-of-command : (byte : ℕ) (left : List ℕ) → Kind (command (byte ∷ left))
-of-command b left =
-    let size = 1 + nameSize left in
-    let name = take (nameSize left) left in
-    let kind = kindOf name in
-    let braces = inBraces (drop size (b ∷ left)) in
-    let small : kind < Limits.kinds = ltb-true kind Limits.kinds (kind-passes (λ (n : ℕ). ltb n Limits.kinds) name refl) in
-    let no-word : kind ≡ Token.Word → ⊥ = eqb-false kind Token.Word (other-kind Token.Word name refl) in
-    either (takesName kind && ltb 0 braces)
-    (λ t. rw t (of-braces kind size braces))
-    (λ f. rw f (of-name kind size small no-word))
-
-by-front : {b : ℕ} {left : List ℕ} → Front b left → Kind (lexeme (b ∷ left))
+by-front : {b : ℕ} {left : List ℕ} → Front left b → Kind (lexeme (b ∷ left))
 by-front (matched kind size low some fits is) = subst Kind (sym is) (record { small = omega (arith, low); word = λ w. some })
-by-front {b} {left} (named is-backslash is) = subst Kind (sym is) (of-command b left)
+by-front {left} (named is) = subst Kind (sym is) (of-name (wordOf left) (sizeOf left))
+by-front {left} (braced takes some is) = subst Kind (sym is) (of-braces (wordKind left) (sizeOf left) (nameAfter left))
 
 pub kinds : (left : List ℕ) (b : ℕ) → Kind (lexeme (b ∷ left))
 kinds left b = by-front (fronts left b)
