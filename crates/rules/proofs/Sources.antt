@@ -1,6 +1,6 @@
 -- A token's source range is its text, with a backslash to the brace before it and a brace behind it where it is a \begin or an \end with its name:
 -- by the longest match a plain token is all text, and a command with a name in braces is spelled by its kind. Assumes nothing.
-use Prim.Native.Nat.{ℕ, _+_, _-_, _<_}
+use Prim.Native.Nat.{ℕ, _+_, _<_}
 use mathlib.Core.Path.{_≡_, refl, sym, ap, ap₂, subst, _∙_}
 use mathlib.Core.Bool.{true, false}
 use mathlib.Core.List.{List, [], _∷_, _++_, append-nil, append-assoc}

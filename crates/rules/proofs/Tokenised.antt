@@ -1,9 +1,9 @@
 -- A run over what a text of ASCII bytes was cut into is never refused 3: the checks find no such row, and while reading only 5 to 8 come. What
 -- `tokenise` answered tells that the text is such and where its rows stand. Assumes nothing.
-use Prim.Native.Nat.{ℕ, suc, _+_, _*_, _≤_, _<_}
+use Prim.Native.Nat.{ℕ, _+_, _*_, _≤_, _<_}
 use mathlib.Core.Path.{_≡_, refl, ap, _∙_}
 use mathlib.Core.Bool.{not, and-false}
-use mathlib.Core.List.{List, [], _∷_}
+use mathlib.Core.List.{List}
 use mathlib.Core.Option.{Option, none, some}
 use native.Mathlib.Omega.{arith}
 use lib.Dec.{leb, ltb}
@@ -20,8 +20,8 @@ use Rattle.rules.specs.Run.{Answer, accepted, refusedAt, afterReading, a
 use Rattle.rules.specs.Tables.{tokenCount}
 use Rattle.rules.specs.Tokeniser as tokeniser
 use Rattle.rules.specs.Tokeniser.{Tokenised, written, notAscii, isAscii, tokensOf, tokenRows, judged, tokenise, fits}
-use Rattle.rules.proofs.AllUnder.{AllUnder, by-place}
 use Rattle.rules.proofs.Alike.{AnyKnown, known-refusals}
+use Rattle.rules.proofs.AllUnder.{AllUnder, by-place}
 use Rattle.rules.proofs.Characters.{either}
 use Rattle.rules.proofs.Checks.{all-right}
 use Rattle.rules.proofs.Tiled.{rows-long}

@@ -1,14 +1,11 @@
 -- The text is cut from its start: what is left at a place has one token more, and then what is left behind it. Assumes nothing.
-use Prim.Native.Nat.{ℕ, suc, _+_, _*_, _-_, _≤_, _<_}
-use mathlib.Core.Path.{_≡_, refl, sym, ap, subst, _∙_}
+use Prim.Native.Nat.{ℕ, suc, _+_, _*_, _≤_, _<_}
+use mathlib.Core.Path.{_≡_, refl, sym, ap, _∙_}
 use mathlib.Core.Bool.{Bool, true, false, cond}
 use mathlib.Core.List.{List, [], _∷_, _++_, append-assoc, append-nil}
-use mathlib.Core.Option.{Option, none, some}
 use native.Mathlib.Omega.{arith}
-use lib.Dec.{leb, ltb}
-use lib.ListN.{length, getD, take, drop, drop-of-length-le, length-drop, length-append, take-append-drop}
-use lib.Seq.{drop-cons, drop-drop, length-take-le}
-use borrow.Author.Tests.{lt-ltb, le-ltb, le-leb, lt-leb, leb-true}
+use lib.ListN.{length, take, drop, take-append-drop}
+use lib.Seq.{drop-drop, length-take-le}
 use Rattle.rules.specs.Limits.{tokenWidth}
 use Rattle.rules.specs.Run.{over}
 use Rattle.rules.specs.Tokeniser.{Lexeme, lexeme, tokensOf, rowsFrom, tokenRows}
