@@ -75,12 +75,12 @@ module _ (left : List ℕ) where
   by-pattern k parts quiet still some no-command = rw (alone k parts quiet still some, no-command)
 
 -- ---- any byte of a list of them
-data Each (P : ℕ → Type 0) : List ℕ → Type 0 where
+pub data Each (P : ℕ → Type 0) : List ℕ → Type 0 where
   done : Each P []
   _by_also_ : (k : ℕ) {keys : List ℕ} → P k → Each P keys → Each P (k ∷ keys)
 
 infixr 20 _by_also_
-each : (P : ℕ → Type 0) (keys : List ℕ) (byte : ℕ) → Each P keys → among byte keys ≡ true → P byte
+pub each : (P : ℕ → Type 0) (keys : List ℕ) (byte : ℕ) → Each P keys → among byte keys ≡ true → P byte
 each P [] byte done h = absurd (false≢true h)
 each P (k ∷ keys) byte (k′ by this also others) h =
     either (eqb byte k) (λ t. subst P (sym (eqb-true byte k t)) this) (λ f. each P keys byte others (rw f at h))

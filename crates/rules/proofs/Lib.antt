@@ -1,6 +1,7 @@
 -- Theorems about the rules alone, and the laws by which other crates use their definitions.
 pub mod Agreed
 pub mod Alike
+pub mod AllUnder
 pub mod Asked
 pub mod Characters
 pub mod Checks

@@ -1,18 +1,21 @@
--- The token in front is the longest match: no pattern matches longer than the one that was taken, and no token is shorter than its pattern. Assumes
--- nothing.
-use Prim.Native.Nat.{ℕ, zero, suc, _≤_, _<_}
-use mathlib.Core.Path.{_≡_, refl, sym, ap, _∙_}
-use mathlib.Core.Bool.{Bool, true, false, cond, _||_, false≢true}
+-- The token in front is the longest match: no pattern matches longer than the one that was taken, and no token is shorter than its pattern; so each
+-- token of a text is, one behind the other. Assumes nothing.
+use Prim.Native.Nat.{ℕ, zero, suc, _+_, _≤_, _<_}
+use mathlib.Core.Path.{_≡_, refl, sym, ap, subst, _∙_}
+use mathlib.Core.Bool.{Bool, true, false, cond, false≢true}
 use mathlib.Core.List.{List, [], _∷_, _++_}
 use native.Mathlib.Omega.{arith}
 use lib.Dec.{eqb, ltb}
-use lib.ListN.{getD, take}
+use lib.ListN.{length, getD, take, drop}
 use borrow.Author.Tests.{ltb-true, ltb-false, eqb-true}
-use Rattle.rules.specs.Patterns.{Pattern, patterns, beats, bestOf, noPattern, patternOf, inFront}
+use Rattle.rules.specs.Patterns.{Class, Pattern, patterns, beats, bestOf, noPattern, patternOf, inFront, run}
+use Rattle.rules.specs.Tables.{tokenCount}
 use Rattle.rules.specs.Token
-use Rattle.rules.specs.Tokeniser.{lexeme}
+use Rattle.rules.specs.Tokeniser.{lexeme, tokenRows, Longest, done, next}
 use Rattle.rules.proofs.Characters.{either}
 use Rattle.rules.proofs.LexemeSizes.{sized}
+use Rattle.rules.proofs.Tiled.{Stand, kind-is, ends, walk}
+use Rattle.rules.proofs.TokensOf.{first}
 
 module _ (left : List ℕ) where
   abbrev size : Pattern → ℕ
@@ -107,3 +110,39 @@ token-longest byte left k =
     either (eqb (patternOf all .kind) Token.Generic)
     (λ t. omega (arith, most, command-short all t, sized left byte .some))
     (λ f. omega (arith, most, by-pattern all f))
+
+-- ---- "the longest run": each of its bytes is of the class
+pub run-all : (of : Class) (left : List ℕ) (i : ℕ) → i < run of left → of (getD left i 0) ≡ true
+unfolding run
+run-all of [] i there = absurd (omega arith)
+run-all of (byte ∷ left) zero there = either (of byte) (λ t. t) (λ f. absurd (omega (arith, rw f at there)))
+run-all of (byte ∷ left) (suc i) there =
+    either (of byte) (λ t. run-all of left i (omega (arith, rw t at there))) (λ f. absurd (omega (arith, rw f at there)))
+
+-- and the byte behind them, if there is one, is not
+pub run-ends : (of : Class) (left : List ℕ) → run of left < length left → of (getD left (run of left) 0) ≡ false
+unfolding run
+run-ends of [] there = absurd (omega arith)
+run-ends of (byte ∷ left) there =
+    either (of byte) (λ t. rw t (run-ends of left (omega (arith, rw t at there)))) (λ f. rw f f)
+
+-- ---- each token of a text is the longest match at its place
+module _ (text : List ℕ) where
+  none-more : (i at : ℕ) → i ≡ tokenCount (tokenRows text) → at ≡ length text → Longest text (tokenRows text) i at
+  none-more i at all end = done {i = i} all
+
+  module _ (i at : ℕ) (stand : Stand text (tokenRows text) i at) (here : at < length text) where
+    token-here : (k : ℕ) → getD patterns k noPattern .matched (drop at text) ≤ lexeme (drop at text) .size
+    token-here =
+        subst (λ l. (k : ℕ) → getD patterns k noPattern .matched l ≤ lexeme l .size) (sym (first text at here))
+        (token-longest (getD text at 0) (drop (suc at) text))
+
+    one-more : Longest text (tokenRows text) (i + 1) (at + lexeme (drop at text) .size) → Longest text (tokenRows text) i at
+    one-more rest =
+        let ended = ends text stand here in
+        next {i = i} (kind-is text stand here) ended (λ k. omega (arith, ended, token-here k))
+        (subst (λ n. Longest text (tokenRows text) (i + 1) n) (sym ended) rest)
+
+  -- "the longest-match rules": no pattern matches past the end of a row's source range
+  pub each-longest : Longest text (tokenRows text) 0 0
+  each-longest = walk text (tokenRows text) (Longest text (tokenRows text)) none-more one-more refl

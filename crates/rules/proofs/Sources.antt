@@ -1,21 +1,21 @@
 -- A token's source range is its text, with a backslash to the brace before it and a brace behind it where it is a \begin or an \end with its name:
 -- by the longest match a plain token is all text, and a command with a name in braces is spelled by its kind. Assumes nothing.
-use Prim.Native.Nat.{ℕ, _+_, _-_, _<_}
+use Prim.Native.Nat.{ℕ, _+_, _<_}
 use mathlib.Core.Path.{_≡_, refl, sym, ap, ap₂, subst, _∙_}
-use mathlib.Core.Bool.{Bool, true, false, cond, _&&_}
+use mathlib.Core.Bool.{true, false}
 use mathlib.Core.List.{List, [], _∷_, _++_, append-nil, append-assoc}
 use native.Mathlib.Omega.{arith}
-use lib.Dec.{eqb, ltb}
+use lib.Dec.{eqb}
 use lib.ListN.{length, take, drop, length-append}
 use lib.Seq.{take-add, drop-drop, length-take-le}
-use borrow.Author.Tests.{eqb-true, ne-eqb, ltb-true}
-use Rattle.rules.specs.Commands.{nameSize, kindOf, isName, inBraces, takesName, withName}
+use borrow.Author.Tests.{eqb-true, ne-eqb}
+use Rattle.rules.specs.Commands.{nameSize, isName, inBraces, takesName, withName}
 use Rattle.rules.specs.Notation.{bytes}
 use Rattle.rules.specs.Patterns.{run, inFront}
 use Rattle.rules.specs.Token
-use Rattle.rules.specs.Tokeniser.{Lexeme, plain, environment, command, lexeme, opening, closing}
+use Rattle.rules.specs.Tokeniser.{Lexeme, plain, environment, lexeme, opening, closing}
 use Rattle.rules.proofs.Characters.{either}
-use Rattle.rules.proofs.LexemeSizes.{Front, matched, named, fronts, in-front, name-fits}
+use Rattle.rules.proofs.LexemeSizes.{wordOf, sizeOf, wordKind, nameAfter, Front, matched, named, braced, fronts, in-front, name-fits}
 use Rattle.rules.proofs.Spellings.{other-kind, begin-only, end-only}
 
 pub record Sourced (token : Lexeme) (left : List ℕ) : Type 0 where
@@ -51,9 +51,9 @@ between n rest begun shut =
     ∙ ap (λ (l : List ℕ). l ++ take (n + 1) behind) (ap (take 1) (in-front 0x7B rest begun))
     ∙ ap (λ (l : List ℕ). 0x7B ∷ l) (closed n behind (ap (inFront (0x7D ∷ [])) there ∙ shut))
 
-braced : (rest : List ℕ) → 0 < inBraces rest → take (1 + inBraces rest + 1) rest ≡ 0x7B ∷ (take (inBraces rest) (drop 1 rest) ++ (0x7D ∷ []))
+in-braces : (rest : List ℕ) → 0 < inBraces rest → take (1 + inBraces rest + 1) rest ≡ 0x7B ∷ (take (inBraces rest) (drop 1 rest) ++ (0x7D ∷ []))
 unfolding inBraces
-braced rest some =
+in-braces rest some =
     let size = run isName (drop 1 rest) in
     either (inFront (bytes "{") rest)
     (λ t.
@@ -66,21 +66,21 @@ module _ (left : List ℕ) where
   All = 0x5C ∷ left
 
   abbrev size : ℕ
-  size = 1 + nameSize left
+  size = sizeOf left
 
   abbrev kind : ℕ
-  kind = kindOf (take (nameSize left) left)
+  kind = wordKind left
 
   abbrev name : ℕ
-  name = inBraces (drop size All)
+  name = nameAfter left
 
   -- a \begin or an \end, by the word that it is
-  module _ (word : List ℕ) (both : ℕ) (is : word ≡ take (nameSize left) left) (some : 0 < name) where
+  module _ (word : List ℕ) (both : ℕ) (is : word ≡ wordOf left) (some : 0 < name) where
     front : take size All ≡ 0x5C ∷ word
     front = take-add 1 (nameSize left) All ∙ ap (λ (l : List ℕ). 0x5C ∷ l) (sym is)
 
     behind : take (1 + name + 1) (drop size All) ≡ 0x7B ∷ (take name (drop (size + 1) All) ++ (0x7D ∷ []))
-    behind = braced (drop size All) some ∙ ap (λ (l : List ℕ). 0x7B ∷ (take name l ++ (0x7D ∷ []))) (drop-drop 1 size All)
+    behind = in-braces (drop size All) some ∙ ap (λ (l : List ℕ). 0x7B ∷ (take name l ++ (0x7D ∷ []))) (drop-drop 1 size All)
 
     whole : take (size + 1 + name + 1) All ≡ (0x5C ∷ (word ++ (0x7B ∷ []))) ++ (take name (drop (size + 1) All) ++ (0x7D ∷ []))
     whole =
@@ -105,42 +105,22 @@ module _ (left : List ℕ) where
         }
 
   -- a name's kind is never 27 or 28
-  bare : Sourced (plain kind size) All
-  bare =
-      let word = take (nameSize left) left in
-      of-plain kind size All (other-kind Token.BeginEnvironment word refl) (other-kind Token.EndEnvironment word refl)
+  of-name : Sourced (plain kind size) All
+  of-name = of-plain kind size All (other-kind Token.BeginEnvironment (wordOf left) refl) (other-kind Token.EndEnvironment (wordOf left) refl)
 
-  by-test : (b : Bool) → (takesName kind && ltb 0 name) ≡ b → Sourced (cond b (environment kind size name) (plain kind size)) All
-      → Sourced (command All) All
-  by-test b is = subst (λ t. Sourced (cond t (environment kind size name) (plain kind size)) All) (sym is)
-
-  of-command : Sourced (command All) All
-  of-command =
-      let word = take (nameSize left) left in
+  of-braces : takesName kind ≡ true → 0 < name → Sourced (environment kind size name) All
+  of-braces takes some =
       either (eqb kind Token.ErrorBeginEnvironment)
-      (λ t.
-      either (ltb 0 name)
-      (λ u.
-      by-test true (rw (t, u))
-      (of-word (bytes "begin") Token.BeginEnvironment (begin-only word (eqb-true _ _ t)) (ltb-true 0 name u) refl refl (rw t)))
-      (λ f. by-test false (rw (t, f)) bare))
-      (λ no-begin.
-      either (eqb kind Token.ErrorEndEnvironment)
-      (λ t.
-      either (ltb 0 name)
-      (λ u.
-      by-test true (rw (no-begin, t, u))
-      (of-word (bytes "end") Token.EndEnvironment (end-only word (eqb-true _ _ t)) (ltb-true 0 name u) refl refl (rw no-begin)))
-      (λ f. by-test false (rw (no-begin, t, f)) bare))
-      (λ no-end. by-test false (rw (no-begin, no-end)) bare))
+      (λ t. of-word (bytes "begin") Token.BeginEnvironment (begin-only (wordOf left) (eqb-true _ _ t)) some refl refl (rw t))
+      (λ f. of-word (bytes "end") Token.EndEnvironment (end-only (wordOf left) (eqb-true _ _ (rw f at takes))) some refl refl (rw f))
 
-by-front : {byte : ℕ} {left : List ℕ} → Front byte left → Sourced (lexeme (byte ∷ left)) (byte ∷ left)
+by-front : {byte : ℕ} {left : List ℕ} → Front left byte → Sourced (lexeme (byte ∷ left)) (byte ∷ left)
 by-front {byte} {left} (matched kind size low some fits is) =
     subst (λ t. Sourced t (byte ∷ left)) (sym is)
     (of-plain kind size (byte ∷ left) (ne-eqb kind Token.BeginEnvironment (λ e. omega (arith, low, e)))
     (ne-eqb kind Token.EndEnvironment (λ e. omega (arith, low, e))))
-by-front {byte} {left} (named is-backslash is) =
-    subst (λ t. Sourced t (byte ∷ left)) (sym is) (subst (λ b. Sourced (command (b ∷ left)) (b ∷ left)) (sym is-backslash) (of-command left))
+by-front {left} (named is) = subst (λ t. Sourced t (0x5C ∷ left)) (sym is) (of-name left)
+by-front {left} (braced takes some is) = subst (λ t. Sourced t (0x5C ∷ left)) (sym is) (of-braces left takes some)
 
 pub sourced : (left : List ℕ) (byte : ℕ) → Sourced (lexeme (byte ∷ left)) (byte ∷ left)
 sourced left byte = by-front (fronts left byte)

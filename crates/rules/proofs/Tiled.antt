@@ -42,6 +42,10 @@ module _ (text : List ℕ) where
       abbrev pub token : Lexeme
       token = lexeme (drop at text)
 
+      -- so many rows are left: this one and those behind it
+      pub rest-is : tokenCount rows - i ≡ suc (tokenCount rows - (i + 1))
+      rest-is = omega (arith, count, ap length (tokens-at text at here))
+
       abbrev row : List ℕ
       row = token .kind ∷ (at + token .lead) ∷ token .length ∷ 0 ∷ []
 
@@ -77,7 +81,7 @@ module _ (text : List ℕ) where
       begins : startAt rows i ≡ at + length (opening (kindAt rows i))
       begins = start-is ∙ ap (λ (n : ℕ). at + n) (source .lead ∙ ap (λ (k : ℕ). length (opening k)) (sym kind-is))
 
-      ends : sourceEnd rows i ≡ at + token .size
+      pub ends : sourceEnd rows i ≡ at + token .size
       ends =
           let shut = ap (λ (k : ℕ). length (closing k)) kind-is in
           omega (arith, start-is, length-is, shut, source .size)
@@ -90,53 +94,61 @@ module _ (text : List ℕ) where
             long = omega (arith, length-append (stand .front) row, stand .long);
           }
 
-  -- so many bytes are left at most
+  -- what holds where no token is left, and at a token if it holds at the next, holds at the first
+  module _
+      (rows : List ℕ)
+      (P : ℕ → ℕ → Type 0)
+      (end : (i at : ℕ) → i ≡ tokenCount rows → at ≡ length text → P i at)
+      (step : (i at : ℕ) → Stand rows i at → at < length text → P (i + 1) (at + lexeme (drop at text) .size) → P i at)
+    where
+      at-end : {i at : ℕ} → Stand rows i at → at ≡ length text → P i at
+      at-end {i} {at} stand past = end i at (omega (arith, count stand, ap length (none-left text at (omega (arith, past))))) past
+
+      from : (most : ℕ) {i at : ℕ} → Stand rows i at → at ≤ length text → length text - at ≤ most → P i at
+      from zero stand inside few = at-end stand (omega arith)
+      from (suc most) {i} {at} stand inside few =
+          either (ltb at (length text))
+          (λ t.
+          let here = ltb-true at (length text) t in
+          let size = size-at text at here in
+          step i at stand here (from most (stand-next stand here) (omega (arith, size .fits)) (omega (arith, size .some))))
+          (λ f. at-end stand (omega (arith, ltb-false at (length text) f)))
+
+      pub walk : rows ≡ tokenRows text → P 0 0
+      unfolding tokenRows
+      walk are = from (length text) (record { front = []; is = are; long = refl }) (omega arith) (omega arith)
+
+  -- ---- what is left tiles the rest of the text
   pub record Tiled (rows : List ℕ) (i at : ℕ) : Type 0 where
     pub tiles : Tiles rows (length text) i at
     pub texts : sourcesFrom text rows i (tokenCount rows - i) ≡ drop at text
 
-  at-end : {rows : List ℕ} {i at : ℕ} → Stand rows i at → at ≡ length text → Tiled rows i at
-  at-end {rows} {i} {at} stand end =
+  none-more : {rows : List ℕ} (i at : ℕ) → i ≡ tokenCount rows → at ≡ length text → Tiled rows i at
+  none-more {rows} i at all end =
+      let nothing : tokenCount rows - i ≡ 0 = omega (arith, all) in
       let past : length text ≤ at = omega (arith, end) in
-      let all = count stand in
-      let nothing = ap length (none-left text at past) in
-      let none-more : tokenCount rows - i ≡ 0 = omega (arith, all, nothing) in
       record {
-        tiles = done {i = i} (omega (arith, all, nothing)) end;
-        texts = ap (sourcesFrom text rows i) none-more ∙ sym (drop-of-length-le text past);
+        tiles = done {i = i} all end;
+        texts = ap (sourcesFrom text rows i) nothing ∙ sym (drop-of-length-le text past);
       }
 
-  module _ {rows : List ℕ} {i at : ℕ} (stand : Stand rows i at) (here : at < length text) where
+  module _ {rows : List ℕ} (i at : ℕ) (stand : Stand rows i at) (here : at < length text) where
     abbrev size : ℕ
     size = lexeme (drop at text) .size
 
     one-more : Tiled rows (i + 1) (at + size) → Tiled rows i at
     one-more rest =
-        let all = count stand in
-        let some = ap length (tokens-at text at here) in
-        let left : tokenCount rows - i ≡ suc (tokenCount rows - (i + 1)) = omega (arith, all, some) in
         let ended = ends stand here in
         record {
           tiles =
-              next {i = i} (omega (arith, all, some)) (begins stand here) (omega (arith, ended, size-at text at here .some))
+              next {i = i} (omega (arith, rest-is stand here)) (begins stand here) (omega (arith, ended, size-at text at here .some))
               (subst (λ n. Tiles rows (length text) (i + 1) n) (sym ended) (rest .tiles));
           texts =
-              ap (sourcesFrom text rows i) left
+              ap (sourcesFrom text rows i) (rest-is stand here)
               ∙ ap₂ _++_ (text-is stand here) (rest .texts ∙ sym (drop-drop size at text))
               ∙ take-append-drop size (drop at text);
         }
 
-  tiled-from : (most : ℕ) {rows : List ℕ} {i at : ℕ} → Stand rows i at → at ≤ length text → length text - at ≤ most → Tiled rows i at
-  tiled-from zero stand inside few = at-end stand (omega arith)
-  tiled-from (suc most) {rows} {i} {at} stand inside few =
-      either (ltb at (length text))
-      (λ t.
-      let here = ltb-true at (length text) t in
-      let size = size-at text at here in
-      one-more stand here (tiled-from most (stand-next stand here) (omega (arith, size .fits)) (omega (arith, size .some))))
-      (λ f. at-end stand (omega (arith, ltb-false at (length text) f)))
-
   -- "Every byte lies in exactly one token's source range": the ranges tile the text, and their texts, joined in order, are the text
   pub tiled : Tiled (tokenRows text) 0 0
-  unfolding tokenRows
-  tiled = tiled-from (length text) (record { front = []; is = refl; long = refl }) (omega arith) (omega arith)
+  tiled = walk (tokenRows text) (Tiled (tokenRows text)) none-more one-more refl

@@ -1,15 +1,15 @@
 -- A run over what a text of ASCII bytes was cut into is never refused 3: the checks find no such row, and while reading only 5 to 8 come. What
 -- `tokenise` answered tells that the text is such and where its rows stand. Assumes nothing.
-use Prim.Native.Nat.{ℕ, suc, _+_, _*_, _≤_, _<_}
+use Prim.Native.Nat.{ℕ, _+_, _*_, _≤_, _<_}
 use mathlib.Core.Path.{_≡_, refl, ap, _∙_}
-use mathlib.Core.Bool.{not}
-use mathlib.Core.List.{List, [], _∷_}
+use mathlib.Core.Bool.{not, and-false}
+use mathlib.Core.List.{List}
 use mathlib.Core.Option.{Option, none, some}
 use native.Mathlib.Omega.{arith}
-use lib.Dec.{ltb}
+use lib.Dec.{leb, ltb}
 use lib.ListN.{length, getD, take, drop}
 use lib.Seq.{take-at}
-use borrow.Author.Tests.{leb-true}
+use borrow.Author.Tests.{leb-true, lt-leb}
 use Rattle.rules.specs.Checks.{Tables, Refusal, shapeCount, stateCount, firstBad, withinLimits, tokenRight, shapeOrStateRight, at, checks, sourceOf}
 use Rattle.rules.specs.Flat.{Built, Mark, flat, empty}
 use Rattle.rules.specs.Limits
@@ -19,18 +19,15 @@ use Rattle.rules.specs.Reading.{parse}
 use Rattle.rules.specs.Run.{Answer, accepted, refusedAt, afterReading, afterChecks, run}
 use Rattle.rules.specs.Tables.{tokenCount}
 use Rattle.rules.specs.Tokeniser as tokeniser
-use Rattle.rules.specs.Tokeniser.{Tokenised, written, isAscii, tokensOf, tokenRows, judged, tokenise, fits}
+use Rattle.rules.specs.Tokeniser.{Tokenised, written, notAscii, isAscii, tokensOf, tokenRows, judged, tokenise, fits}
 use Rattle.rules.proofs.Alike.{AnyKnown, known-refusals}
+use Rattle.rules.proofs.AllUnder.{AllUnder, by-place}
 use Rattle.rules.proofs.Characters.{either}
 use Rattle.rules.proofs.Checks.{all-right}
 use Rattle.rules.proofs.Tiled.{rows-long}
-use Rattle.rules.proofs.TokensRight.{Low, no-byte, byte, rows-right}
+use Rattle.rules.proofs.TokensRight.{rows-right}
 
 -- ---- what `tokenise` answered
-
-low-where : (text : List ℕ) → ((i : ℕ) → i < length text → getD text i 0 ≤ 127) → Low text
-low-where [] each = no-byte
-low-where (b ∷ text) each = byte {b = b} (omega (arith, each 0 (omega arith))) (low-where text (λ i there. each (suc i) (omega arith)))
 
 abbrev countOf : Tokenised → ℕ
 countOf (written count) = count
@@ -38,7 +35,7 @@ countOf (tokeniser.refusedAt number place) = 0
 
 -- the text has ASCII bytes alone, and the rows that were written are in front
 pub record Wrote (text : List ℕ) (count : ℕ) (buffer : List ℕ) : Type 0 where
-  pub low : Low text
+  pub ascii : AllUnder 128 text
   pub rows : take (count * Limits.tokenWidth) buffer ≡ tokenRows text
 
 module _ (text buffer : List ℕ) {count : ℕ} where
@@ -52,10 +49,11 @@ module _ (text buffer : List ℕ) {count : ℕ} where
   told none is e =
       either (fits text (length buffer))
       (λ t.
+      let low : (i : ℕ) → i < length text → getD text i 0 ≤ 127 = λ i there. leb-true _ 127 (all-right (isAscii text) (length text) is i there) in
       let count-is : length (tokensOf text) ≡ count = ap countOf (rw t at e) in
       rw t
       (record {
-        low = low-where text (λ i there. leb-true (getD text i 0) 127 (all-right (isAscii text) (length text) is i there));
+        ascii = by-place 128 text (λ i there. omega (arith, low i there));
         rows = take-at (tokenRows text) (drop (length (tokenRows text)) buffer) (count * Limits.tokenWidth) (long count-is);
       }))
       (λ f. let refused = rw f at e in let z : _≡_ {A = ℕ} 0 1 = cc in absurd (omega arith))
@@ -63,6 +61,22 @@ module _ (text buffer : List ℕ) {count : ℕ} where
   pub wrote : tokenise text buffer .0 ≡ written count → Wrote text count (tokenise text buffer .1)
   unfolding tokenise
   wrote = told (firstBad (isAscii text) (length text) 0) refl
+
+-- ---- the order of refusals, which texts small enough to be computed can't tell
+module _ (text buffer : List ℕ) where
+  -- a byte over 127 is told first, however long the text is and whatever room is lent
+  pub high-first : (place : ℕ) → firstBad (isAscii text) (length text) 0 ≡ some place
+      → tokenise text buffer ≡ (tokeniser.refusedAt notAscii place, buffer)
+  unfolding tokenise
+  high-first place is = ap (judged text buffer) is
+
+  -- more tokens than the limit are refused, whatever room is lent
+  pub many-refused : firstBad (isAscii text) (length text) 0 ≡ none → Limits.tokens < length (tokensOf text)
+      → tokenise text buffer ≡ (tokeniser.refusedAt 1 0, buffer)
+  unfolding tokenise
+  many-refused is many =
+      ap (judged text buffer) is
+      ∙ rw (lt-leb (length (tokensOf text)) Limits.tokens many, and-false (leb (length text) Limits.text))
 
 -- ---- the numbers of refusals, and 0 where nothing is refused
 abbrev numberOf : Answer → ℕ
@@ -99,9 +113,9 @@ module _ (t : Tables) (tree dropped : List ℕ) where
   checking none free = reading (parse (flat (length tree)) (sourceOf t) empty) (known-refusals (length tree) (sourceOf t))
   checking (some refusal) free = free
 
-  no-3 : {place : ℕ} → Low (t .text) → t .tokens ≡ tokenRows (t .text) → run t tree dropped .answer ≡ refusedAt 3 place → ⊥
+  no-3 : {place : ℕ} → AllUnder 128 (t .text) → t .tokens ≡ tokenRows (t .text) → run t tree dropped .answer ≡ refusedAt 3 place → ⊥
   unfolding run
-  no-3 low are e = checking (checks t (length dropped)) (no-row (rows-right t low are)) (ap numberOf e)
+  no-3 ascii are e = checking (checks t (length dropped)) (no-row (rows-right t ascii are)) (ap numberOf e)
 
   -- "what it gives passes rule 3": over the rows that were written of a text no run is refused 3, whatever shapes and states there are
   pub never-refused-3 :
@@ -110,4 +124,4 @@ module _ (t : Tables) (tree dropped : List ℕ) where
       → t .tokens ≡ take (count * Limits.tokenWidth) (tokenise (t .text) buffer .1)
       → run t tree dropped .answer ≡ refusedAt 3 place
       → ⊥
-  never-refused-3 buffer e are = let w = wrote (t .text) buffer e in no-3 (w .low) (are ∙ w .rows)
+  never-refused-3 buffer e are = let w = wrote (t .text) buffer e in no-3 (w .ascii) (are ∙ w .rows)

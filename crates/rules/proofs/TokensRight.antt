@@ -1,87 +1,66 @@
 -- What a text of ASCII bytes is cut into passes refusal 3: each kind is under 40, each token lies in the text, none has a shape, and a Word has at
 -- least one byte, which is a character. Assumes nothing.
-use Prim.Native.Nat.{ℕ, zero, suc, _+_, _-_, _≤_, _<_}
+use Prim.Native.Nat.{ℕ, suc, _+_, _-_, _≤_, _<_}
 use mathlib.Core.Path.{_≡_, refl, sym, ap, subst, _∙_}
-use mathlib.Core.Bool.{true, _&&_}
-use mathlib.Core.List.{List, [], _∷_}
+use mathlib.Core.Bool.{true}
+use mathlib.Core.List.{List, _∷_}
 use mathlib.Core.Option.{none}
 use native.Mathlib.Omega.{arith}
 use lib.Dec.{eqb, ltb}
-use lib.ListN.{length, getD, take, drop}
-use borrow.Author.Tests.{eqb-true, eqb-false, lt-ltb, le-leb, ltb-true, ltb-false, ne-eqb}
+use lib.ListN.{length, getD, drop}
+use borrow.Author.Tests.{eqb-true, eqb-false, lt-ltb, le-leb, ltb-true, ne-eqb}
 use Rattle.rules.specs.Characters.{charLength, isUtf8}
 use Rattle.rules.specs.Checks.{Tables, shapeCount, firstBad, wordRight, tokenRight}
-use Rattle.rules.specs.Commands.{nameSize, kindOf, inBraces, takesName}
+use Rattle.rules.specs.Commands.{kindOf}
 use Rattle.rules.specs.Limits
 use Rattle.rules.specs.Tables.{tokenCount, kindAt, startAt, lengthAt, shapeAt}
 use Rattle.rules.specs.Token
-use Rattle.rules.specs.Tokeniser.{Lexeme, plain, environment, command, lexeme, tokenRows}
+use Rattle.rules.specs.Tokeniser.{Lexeme, plain, environment, lexeme, tokenRows}
+use Rattle.rules.proofs.AllUnder.{AllUnder, nothing, under, under-take, under-drop}
 use Rattle.rules.proofs.Characters.{either, utf8-rest, utf8-nothing}
-use Rattle.rules.proofs.LexemeSizes.{Front, matched, named, fronts, Sized}
-use Rattle.rules.proofs.Tiled.{Stand, count, kind-is, start-is, length-is, shape-is, stand-next}
-use Rattle.rules.proofs.TokensOf.{first, size-at, tokens-at, none-left}
+use Rattle.rules.proofs.LexemeSizes.{wordOf, sizeOf, wordKind, nameAfter, Front, matched, named, braced, fronts, Sized}
+use Rattle.rules.proofs.Tiled.{Stand, kind-is, start-is, length-is, shape-is, rest-is, walk}
+use Rattle.rules.proofs.TokensOf.{first, size-at}
 use Rattle.rules.proofs.Spellings.{kind-passes, other-kind}
 
 -- ---- ASCII bytes are characters
-pub data Low : List ℕ → Type 0 where
-  no-byte : Low []
-  byte : {b : ℕ} {bytes : List ℕ} → b < 128 → Low bytes → Low (b ∷ bytes)
-
 single : (b : ℕ) (bytes : List ℕ) → b < 128 → charLength (b ∷ bytes) ≡ 1
 unfolding charLength
 single b bytes low = rw (le-leb 0 b (omega arith), le-leb b 0x7F (omega arith))
 
-pub low-utf8 : {bytes : List ℕ} → Low bytes → isUtf8 bytes ≡ true
-low-utf8 no-byte = utf8-nothing
-low-utf8 (byte {b} {bytes} low rest) =
-    let one = single b bytes low in
-    utf8-rest (b ∷ bytes) (omega (arith, one)) ∙ ap (λ (n : ℕ). isUtf8 (drop n (b ∷ bytes))) one ∙ low-utf8 rest
+ascii-utf8 : {bytes : List ℕ} → AllUnder 128 bytes → isUtf8 bytes ≡ true
+ascii-utf8 nothing = utf8-nothing
+ascii-utf8 (under {x} {xs} low rest) =
+    let one = single x xs low in
+    utf8-rest (x ∷ xs) (omega (arith, one)) ∙ ap (λ (n : ℕ). isUtf8 (drop n (x ∷ xs))) one ∙ ascii-utf8 rest
 
 -- ---- a token's kind
 pub record Kind (token : Lexeme) : Type 0 where
   pub small : token .kind < Limits.kinds
   pub word : token .kind ≡ Token.Word → 1 ≤ token .length
 
-of-name : (kind size : ℕ) → kind < Limits.kinds → (kind ≡ Token.Word → ⊥) → Kind (plain kind size)
-of-name kind size small no-word = record { small = small; word = λ is. absurd (no-word is) }
+of-name : (word : List ℕ) (size : ℕ) → Kind (plain (kindOf word) size)
+of-name word size =
+    record {
+      small = ltb-true (kindOf word) Limits.kinds (kind-passes (λ (n : ℕ). ltb n Limits.kinds) word refl);
+      word = λ is. absurd (eqb-false (kindOf word) Token.Word (other-kind Token.Word word refl) is);
+    }
 
 of-braces : (kind size name : ℕ) → Kind (environment kind size name)
 of-braces kind size name =
     either (eqb kind Token.ErrorBeginEnvironment) (λ t. rw t (record { small = omega arith; word = λ is. absurd (omega (arith, is)) }))
     (λ f. rw f (record { small = omega arith; word = λ is. absurd (omega (arith, is)) }))
 
-of-command : (byte : ℕ) (left : List ℕ) → Kind (command (byte ∷ left))
-of-command b left =
-    let size = 1 + nameSize left in
-    let name = take (nameSize left) left in
-    let kind = kindOf name in
-    let braces = inBraces (drop size (b ∷ left)) in
-    let small : kind < Limits.kinds = ltb-true kind Limits.kinds (kind-passes (λ (n : ℕ). ltb n Limits.kinds) name refl) in
-    let no-word : kind ≡ Token.Word → ⊥ = eqb-false kind Token.Word (other-kind Token.Word name refl) in
-    either (takesName kind && ltb 0 braces)
-    (λ t. rw t (of-braces kind size braces))
-    (λ f. rw f (of-name kind size small no-word))
-
-by-front : {b : ℕ} {left : List ℕ} → Front b left → Kind (lexeme (b ∷ left))
+by-front : {b : ℕ} {left : List ℕ} → Front left b → Kind (lexeme (b ∷ left))
 by-front (matched kind size low some fits is) = subst Kind (sym is) (record { small = omega (arith, low); word = λ w. some })
-by-front {b} {left} (named is-backslash is) = subst Kind (sym is) (of-command b left)
+by-front {left} (named is) = subst Kind (sym is) (of-name (wordOf left) (sizeOf left))
+by-front {left} (braced takes some is) = subst Kind (sym is) (of-braces (wordKind left) (sizeOf left) (nameAfter left))
 
 pub kinds : (left : List ℕ) (b : ℕ) → Kind (lexeme (b ∷ left))
 kinds left b = by-front (fronts left b)
 
--- ---- a part of ASCII bytes
-low-drop : (n : ℕ) {bytes : List ℕ} → Low bytes → Low (drop n bytes)
-low-drop zero low = low
-low-drop (suc n) no-byte = no-byte
-low-drop (suc n) (byte b rest) = low-drop n rest
-
-low-take : (n : ℕ) {bytes : List ℕ} → Low bytes → Low (take n bytes)
-low-take zero low = no-byte
-low-take (suc n) no-byte = no-byte
-low-take (suc n) (byte b rest) = byte b (low-take n rest)
-
 -- ---- refusal 3
-module _ (t : Tables) (low : Low (t .text)) where
+module _ (t : Tables) (ascii : AllUnder 128 (t .text)) where
   module _ {i at : ℕ} (stand : Stand (t .text) (t .tokens) i at) (here : at < length (t .text)) where
     abbrev token : Lexeme
     token = lexeme (drop at (t .text))
@@ -99,7 +78,7 @@ module _ (t : Tables) (low : Low (t .text)) where
         let long = length-is (t .text) stand here in
         rw (
           ne-eqb (lengthAt (t .tokens) i) 0 (λ empty. omega (arith, some, long, empty)),
-          low-utf8 (low-take (lengthAt (t .tokens) i) (low-drop (startAt (t .tokens) i) low)),
+          ascii-utf8 (under-take (lengthAt (t .tokens) i) (under-drop (startAt (t .tokens) i) ascii)),
         )
 
     row-right : tokenRight t i ≡ true
@@ -120,32 +99,25 @@ module _ (t : Tables) (low : Low (t .text)) where
   unfolding firstBad
   goes-on n i right = rw right
 
-  at-end : {i at : ℕ} → Stand (t .text) (t .tokens) i at → at ≡ length (t .text) → firstBad (tokenRight t) (tokenCount (t .tokens) - i) i ≡ none
-  unfolding firstBad
-  at-end {i} {at} stand end =
-      let past : length (t .text) ≤ at = omega (arith, end) in
-      let none-more : tokenCount (t .tokens) - i ≡ 0 = omega (arith, count (t .text) stand, ap length (none-left (t .text) at past)) in
-      ap (λ (n : ℕ). firstBad (tokenRight t) n i) none-more
+  abbrev NoneFrom : ℕ → ℕ → Type 0
+  NoneFrom i at = firstBad (tokenRight t) (tokenCount (t .tokens) - i) i ≡ none
 
-  none-bad : (most : ℕ) {i at : ℕ} → Stand (t .text) (t .tokens) i at → at ≤ length (t .text) → length (t .text) - at ≤ most
-      → firstBad (tokenRight t) (tokenCount (t .tokens) - i) i ≡ none
-  none-bad zero stand inside few = at-end stand (omega arith)
-  none-bad (suc most) {i} {at} stand inside few =
-      either (ltb at (length (t .text)))
-      (λ b.
-      let here = ltb-true at (length (t .text)) b in
-      let sized = size stand here in
-      let some = ap length (tokens-at (t .text) at here) in
-      let left : tokenCount (t .tokens) - i ≡ suc (tokenCount (t .tokens) - (i + 1)) = omega (arith, count (t .text) stand, some) in
-      ap (λ (n : ℕ). firstBad (tokenRight t) n i) left
+  none-more : (i at : ℕ) → i ≡ tokenCount (t .tokens) → at ≡ length (t .text) → NoneFrom i at
+  unfolding firstBad
+  none-more i at all end =
+      let nothing : tokenCount (t .tokens) - i ≡ 0 = omega (arith, all) in
+      ap (λ (n : ℕ). firstBad (tokenRight t) n i) nothing
+
+  one-more : (i at : ℕ) → Stand (t .text) (t .tokens) i at → at < length (t .text) → NoneFrom (i + 1) (at + lexeme (drop at (t .text)) .size)
+      → NoneFrom i at
+  one-more i at stand here rest =
+      ap (λ (n : ℕ). firstBad (tokenRight t) n i) (rest-is (t .text) stand here)
       ∙ goes-on (tokenCount (t .tokens) - (i + 1)) i (row-right stand here)
-      ∙ none-bad most (stand-next (t .text) stand here) (omega (arith, sized .fits)) (omega (arith, sized .some)))
-      (λ f. at-end stand (omega (arith, ltb-false at (length (t .text)) f)))
+      ∙ rest
 
 -- "Word empty or not UTF-8", and the rest of refusal 3, never come of what a text of ASCII bytes is cut into, whatever shapes there are
-pub rows-right : (t : Tables) → Low (t .text) → t .tokens ≡ tokenRows (t .text) → firstBad (tokenRight t) (tokenCount (t .tokens)) 0 ≡ none
-unfolding tokenRows
-rows-right t low are =
+pub rows-right : (t : Tables) → AllUnder 128 (t .text) → t .tokens ≡ tokenRows (t .text) → firstBad (tokenRight t) (tokenCount (t .tokens)) 0 ≡ none
+rows-right t ascii are =
     let whole : tokenCount (t .tokens) - 0 ≡ tokenCount (t .tokens) = omega arith in
     ap (λ (n : ℕ). firstBad (tokenRight t) n 0) (sym whole)
-    ∙ none-bad t low (length (t .text)) {i = 0} {at = 0} (record { front = []; is = are; long = refl }) (omega arith) (omega arith)
+    ∙ walk (t .text) (t .tokens) (NoneFrom t ascii) (none-more t ascii) (one-more t ascii) are

@@ -11,10 +11,9 @@ use lib.ListN.{getD, take, drop}
 use borrow.Author.Tests.{eqb-true, eqb-false, eq-eqb, not-false}
 use Rattle.rules.specs.Notation.{bytes}
 use Rattle.rules.specs.Patterns.{Pattern, patterns, noPattern, beats, bestOf, patternOf, run, inFront, isBreak, isBlank, isWord}
-use Rattle.rules.specs.Scope.{among}
 use Rattle.rules.proofs.Characters.{either}
 use Rattle.rules.proofs.Longest.{longest}
-use Rattle.rules.proofs.Lexemes.{silent, word-quiet, word-still}
+use Rattle.rules.proofs.Lexemes.{silent, Each, done, _by_also_, each, word-quiet, word-still}
 
 module _ (left : List ℕ) where
   -- how much the k-th pattern matches
@@ -78,44 +77,46 @@ abbrev all : (ℕ → Bool) → List ℕ → Bool
 all test [] = true
 all test (byte ∷ more) = test byte && all test more
 
-each : (test : ℕ → Bool) (keys : List ℕ) (byte : ℕ) → all test keys ≡ true → among byte keys ≡ true → test byte ≡ true
-each test [] byte h is = absurd (false≢true is)
-each test (k ∷ keys) byte h is =
-    let both = and-eq-true-iff (test k) (all test keys) .0 h in
-    either (eqb byte k) (λ t. rw (eqb-true byte k t) (both .0)) (λ f. each test keys byte (both .1) (rw f at is))
+-- so each of them does
+passed : (test : ℕ → Bool) (keys : List ℕ) → all test keys ≡ true → Each (λ k. test k ≡ true) keys
+passed test [] h = done
+passed test (k ∷ keys) h = let both = and-eq-true-iff (test k) (all test keys) .0 h in k by both .0 also passed test keys (both .1)
 
 module _ (left : List ℕ) where
   abbrev fine : ℕ → Bool
   fine byte = untied (byte ∷ left) patterns
 
-  breaks : all fine (0x0D ∷ 0x0A ∷ []) ≡ true
-  unfolding run
-  breaks = simp or-true
+  abbrev Fine : ℕ → Type 0
+  Fine byte = fine byte ≡ true
 
-  blanks : all fine (0x09 ∷ 0x0B ∷ 0x0C ∷ 0x20 ∷ []) ≡ true
+  breaks : Each Fine (0x0D ∷ 0x0A ∷ [])
   unfolding run
-  blanks = simp or-true
+  breaks = passed fine (0x0D ∷ 0x0A ∷ []) (simp or-true)
 
-  marks : all fine (bytes "%{},$[]()~/_*@'\";&^#") ≡ true
+  blanks : Each Fine (0x09 ∷ 0x0B ∷ 0x0C ∷ 0x20 ∷ [])
   unfolding run
-  marks = simp or-true
+  blanks = passed fine (0x09 ∷ 0x0B ∷ 0x0C ∷ 0x20 ∷ []) (simp or-true)
 
-  backslash : fine 0x5C ≡ true
+  marks : Each Fine (bytes "%{},$[]()~/_*@'\";&^#")
+  unfolding run
+  marks = passed fine (bytes "%{},$[]()~/_*@'\";&^#") (simp or-true)
+
+  backslash : Fine 0x5C
   unfolding run
   backslash = either (inFront (0x5C ∷ []) left) (λ t. rw t) (λ f. rw f)
 
-  word : (byte : ℕ) → isWord byte ≡ true → fine byte ≡ true
+  word : (byte : ℕ) → isWord byte ≡ true → Fine byte
   word byte is =
       alone (byte ∷ left) (take 21 patterns) (getD patterns 21 noPattern) (drop 22 patterns) (word-quiet left byte is) (word-still left byte is)
 
-  by-byte : (byte : ℕ) → fine byte ≡ true
+  by-byte : (byte : ℕ) → Fine byte
   by-byte byte =
       either (isWord byte) (word byte)
       (λ no-word.
-      either (isBreak byte) (each fine (0x0D ∷ 0x0A ∷ []) byte breaks)
+      either (isBreak byte) (each Fine (0x0D ∷ 0x0A ∷ []) byte breaks)
       (λ no-break.
-      either (isBlank byte) (each fine (0x09 ∷ 0x0B ∷ 0x0C ∷ 0x20 ∷ []) byte blanks)
-      (λ no-blank. each fine (bytes "\\%{},$[]()~/_*@'\";&^#") byte (rw backslash marks)
+      either (isBlank byte) (each Fine (0x09 ∷ 0x0B ∷ 0x0C ∷ 0x20 ∷ []) byte blanks)
+      (λ no-blank. each Fine (bytes "\\%{},$[]()~/_*@'\";&^#") byte (0x5C by backslash also marks)
       (not-false _ (rw (no-break, no-blank) at no-word)))))
 
 untied-patterns : (left : List ℕ) → untied left patterns ≡ true

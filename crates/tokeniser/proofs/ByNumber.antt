@@ -1,18 +1,18 @@
 -- The kind of a name by its number: no two names have the same number, so the table of spellings may be asked by number. Assumes nothing.
-use Prim.Native.Nat.{ℕ, suc, _+_, _*_, _≤_, _<_}
+use Prim.Native.Nat.{ℕ, _≤_, _<_}
 use Prim.Native.String.{String}
 use mathlib.Core.Path.{_≡_, refl, sym, ap, ap₂, _∙_}
-use mathlib.Core.Bool.{Bool, true, false, cond, not, _&&_, _||_, and-false, false≢true}
+use mathlib.Core.Bool.{Bool, true, false, _&&_, and-false, false≢true}
 use mathlib.Core.List.{List, [], _∷_, map}
-use mathlib.Core.Logic.{_⊎_, ⊎-elim}
 use native.Mathlib.Omega.{arith}
 use lib.Dec.{eqb, leb, ltb}
-use lib.ListN.{length, getD}
+use lib.ListN.{length}
 use borrow.Author.Tests.{eqb-true, eq-eqb, ne-eqb, ltb-true, ltb-false, leb-true}
 use Rattle.rules.specs.Commands.{spelled, lookUp, spellings, kindOf}
 use Rattle.rules.specs.Notation.{bytes}
 use Rattle.rules.specs.Patterns.{inFront}
 use Rattle.rules.specs.Token
+use Rattle.rules.proofs.AllUnder.{AllUnder, nothing, under}
 use Rattle.rules.proofs.Characters.{either}
 use Rattle.rules.proofs.Lexemes.{kindFrom}
 use Rattle.rules.proofs.Spellings.{spelled-is}
@@ -28,16 +28,15 @@ unfolding spelled
 spelled-self these = rw (inFront-self these, eq-eqb (length these) (length these) refl)
 
 -- ---- no two names have the same number
-pub data Bytes : List ℕ → Type 0 where
-  no-byte : Bytes []
-  byte-and : {byte : ℕ} {bytes : List ℕ} → byte < 256 → Bytes bytes → Bytes (byte ∷ bytes)
+abbrev pub Bytes : List ℕ → Type 0
+Bytes = AllUnder 256
 
 less : (xs ys : List ℕ) {a b : ℕ} → Bytes xs → a < b → length xs ≡ length ys → numberFrom a xs < numberFrom b ys
 unfolding numberFrom
-less [] [] no-byte small long = small
-less [] (y ∷ ys) no-byte small long = absurd (omega (arith, long))
+less [] [] nothing small long = small
+less [] (y ∷ ys) nothing small long = absurd (omega (arith, long))
 less (x ∷ xs) [] h small long = absurd (omega (arith, long))
-less (x ∷ xs) (y ∷ ys) (byte-and byte h) small long = less xs ys h (omega arith) (omega (arith, long))
+less (x ∷ xs) (y ∷ ys) (under byte h) small long = less xs ys h (omega arith) (omega (arith, long))
 
 -- a longer name has a larger number
 shorter : (xs ys : List ℕ) {a b : ℕ} → Bytes xs → a ≤ b → 1 ≤ b → length xs < length ys → numberFrom a xs < numberFrom b ys
@@ -49,10 +48,10 @@ shorter xs (y ∷ ys) h low some long =
 
 same : (xs ys : List ℕ) {a b : ℕ} → Bytes xs → Bytes ys → length xs ≡ length ys → numberFrom a xs ≡ numberFrom b ys → (a ≡ b) × (xs ≡ ys)
 unfolding numberFrom
-same [] [] no-byte no-byte long e = (e, refl)
-same [] (y ∷ ys) no-byte h long e = absurd (omega (arith, long))
-same (x ∷ xs) [] h no-byte long e = absurd (omega (arith, long))
-same (x ∷ xs) (y ∷ ys) (byte-and byte h) (byte-and byte′ h′) long e =
+same [] [] nothing nothing long e = (e, refl)
+same [] (y ∷ ys) nothing h long e = absurd (omega (arith, long))
+same (x ∷ xs) [] h nothing long e = absurd (omega (arith, long))
+same (x ∷ xs) (y ∷ ys) (under byte h) (under byte′ h′) long e =
     let rest = same xs ys h h′ (omega (arith, long)) e in
     let heads = rest .0 in
     let first : x ≡ y = omega arith in
@@ -83,9 +82,9 @@ areBytes [] = true
 areBytes (byte ∷ bytes) = ltb byte 256 && areBytes bytes
 
 all-bytes : (bytes : List ℕ) → areBytes bytes ≡ true → Bytes bytes
-all-bytes [] h = no-byte
+all-bytes [] h = nothing
 all-bytes (byte ∷ bytes) h =
-    either (ltb byte 256) (λ t. byte-and (ltb-true byte 256 t) (all-bytes bytes (rw t at h))) (λ f. absurd (false≢true (rw f at h)))
+    either (ltb byte 256) (λ t. under (ltb-true byte 256 t) (all-bytes bytes (rw t at h))) (λ f. absurd (false≢true (rw f at h)))
 
 -- each spelling has at most seven bytes
 abbrev fine : List (String × ℕ) → Bool
@@ -132,8 +131,3 @@ kind-by-number name b = look-up spellings refl name b
 pub long-is-generic : (name : List ℕ) → 7 < length name → kindOf name ≡ Token.Generic
 unfolding kindOf
 long-is-generic name long = too-long spellings refl name long
-
--- the bytes of a slice
-pub slice-bytes : (name : List ℕ) → ((i : ℕ) → getD name i 0 < 256) → Bytes name
-slice-bytes [] h = no-byte
-slice-bytes (byte ∷ name) h = byte-and (h 0) (slice-bytes name (λ i. h (suc i)))

@@ -1,25 +1,18 @@
 -- The text is cut from its start: what is left at a place has one token more, and then what is left behind it. Assumes nothing.
-use Prim.Native.Nat.{ℕ, suc, _+_, _*_, _-_, _≤_, _<_}
-use mathlib.Core.Path.{_≡_, refl, sym, ap, subst, _∙_}
+use Prim.Native.Nat.{ℕ, suc, _+_, _*_, _≤_, _<_}
+use mathlib.Core.Path.{_≡_, refl, sym, ap, _∙_}
 use mathlib.Core.Bool.{Bool, true, false, cond}
 use mathlib.Core.List.{List, [], _∷_, _++_, append-assoc, append-nil}
-use mathlib.Core.Option.{Option, none, some}
 use native.Mathlib.Omega.{arith}
-use lib.Dec.{leb, ltb}
-use lib.ListN.{length, getD, take, drop, drop-of-length-le, length-drop, length-append, take-append-drop}
-use lib.Seq.{drop-cons, drop-drop, length-take-le}
-use borrow.Author.Tests.{lt-ltb, le-ltb, le-leb, lt-leb, leb-true}
-use Rattle.rules.specs.Checks.{firstBad}
+use lib.ListN.{length, take, drop, take-append-drop}
+use lib.Seq.{drop-drop, length-take-le}
 use Rattle.rules.specs.Limits.{tokenWidth}
 use Rattle.rules.specs.Run.{over}
-use Rattle.rules.specs.Tokeniser.{Lexeme, lexeme, tokensOf, rowsFrom, tokenRows, isAscii}
+use Rattle.rules.specs.Tokeniser.{Lexeme, lexeme, tokensOf, rowsFrom, tokenRows}
 use Rattle.rules.proofs.Characters.{either}
-use Rattle.rules.proofs.Checks.{Passed, passes, found, all-passed, all-right}
 use Rattle.rules.proofs.TokensOf.{size-at, tokens-at, none-left}
 use Rattle.builder.specs.Contract.{written}
 use Rattle.builder.proofs.Numbers as numbers
-use Rattle.tokeniser.specs.Answers.{placeIn}
-use Rattle.tokeniser.specs.Bytes.{Ascii}
 use Rattle.tokeniser.specs.Lexemes.{Stands}
 use Rattle.tokeniser.specs.declared.lexeme.Lexeme as given
 
@@ -49,23 +42,6 @@ module _ (text : List ℕ) where
 
     pub all-counted : length text ≤ at → tokens ≡ length (tokensOf text)
     all-counted past = omega (arith, so-far .is, ap length (none-left text at past))
-
-  -- ---- no byte over 127 stands before a place
-  abbrev pub Low : ℕ → Type 0
-  Low at = Passed (isAscii text) (length text) at
-
-  module _ {at : ℕ} (so-far : Low at) where
-    pub low-too : at < length text → getD text at 0 ≤ 127 → Low (at + 1)
-    low-too here low = passes so-far here (le-leb (getD text at 0) 127 low)
-
-    pub high-here : at < length text → 127 < getD text at 0 → firstBad (isAscii text) (length text) 0 ≡ placeIn text at
-    high-here here high = found so-far here (lt-leb (getD text at 0) 127 high) ∙ rw (lt-ltb at (length text) here)
-
-    pub none-high : length text ≤ at → firstBad (isAscii text) (length text) 0 ≡ placeIn text at
-    none-high past = all-passed so-far past ∙ rw (le-ltb at (length text) past)
-
-  pub ascii : firstBad (isAscii text) (length text) 0 ≡ none → Ascii text
-  ascii none-bad = record { byte = λ at here. omega (arith, leb-true (getD text at 0) 127 (all-right (isAscii text) (length text) none-bad at here)) }
 
   -- ---- so many rows were written
   pub record Wrote (before rows : List ℕ) (at row : ℕ) : Type 0 where

@@ -1,7 +1,7 @@
 -- The token at a place of the text, by the byte that stands there. Assumes nothing.
-use Prim.Native.Nat.{ℕ, suc, _+_, _-_, _≤_, _<_}
-use mathlib.Core.Path.{_≡_, refl, sym, ap, subst, _∙_}
-use mathlib.Core.Bool.{Bool, true, false}
+use Prim.Native.Nat.{ℕ, suc, _+_, _-_, _<_}
+use mathlib.Core.Path.{_≡_, sym, ap, subst, _∙_}
+use mathlib.Core.Bool.{true, false}
 use mathlib.Core.List.{List, [], _∷_}
 use native.Mathlib.Omega.{arith}
 use lib.ListN.{length, getD, drop}
@@ -11,7 +11,7 @@ use Rattle.rules.specs.Scope.{among}
 use Rattle.rules.specs.Token
 use Rattle.rules.specs.Tokeniser.{plain, command, lexeme}
 use Rattle.rules.proofs.LexemeSizes.{in-front}
-use Rattle.rules.proofs.Lexemes.{at-break, at-blank, at-percent, at-dollars, at-dollar, at-new-line, at-backslash, at-single, at-word, is-alone, alones, kindAlone}
+use Rattle.rules.proofs.Lexemes.{at-break, at-blank, at-percent, at-dollars, at-dollar, at-new-line, at-backslash, at-single, at-word, alones, kindAlone}
 use Rattle.tokeniser.specs.Lexemes.{Stands}
 use Rattle.tokeniser.specs.declared.lexeme.Lexeme.{Lexeme}
 use Rattle.tokeniser.proofs.Bytes.{goes-on}

@@ -1,7 +1,7 @@
 -- What a text comes to: refusal 11 before 1, and 1 wherever it is too long, has too many tokens, or too few rows are lent. Assumes nothing.
-use Prim.Native.Nat.{ℕ, _+_, _*_, _/_, _≤_, _<_}
-use mathlib.Core.Path.{_≡_, refl, sym, ap, _∙_}
-use mathlib.Core.Bool.{Bool, true, false, _&&_, and-false}
+use Prim.Native.Nat.{ℕ, _*_, _/_, _≤_, _<_}
+use mathlib.Core.Path.{_≡_, sym, ap, _∙_}
+use mathlib.Core.Bool.{Bool, true, false, _&&_, and-false, and-eq-true-iff}
 use mathlib.Core.List.{List}
 use mathlib.Core.Option.{none, some}
 use native.Mathlib.Omega.{arith}
@@ -15,7 +15,6 @@ use Rattle.rules.specs.Tokeniser.{written, refusedAt, notAscii, isAscii, tokens
 use Rattle.rules.proofs.Characters.{either}
 use Rattle.rules.proofs.TokensOf.{tokens-few}
 use Rattle.tokeniser.specs.Answers.{placeIn}
-use Rattle.tokeniser.proofs.Entries.{left-true, right-true}
 
 module _ (text buffer : List ℕ) (place : ℕ) (is : firstBad (isAscii text) (length text) 0 ≡ placeIn text place) where
   pub high : place < length text → (refusedAt notAscii place, buffer) ≡ tokenise text buffer
@@ -74,9 +73,9 @@ module _ (text : List ℕ) (room : ℕ) where
     enough = leb (length (tokensOf text) * Limits.tokenWidth) room
 
     pub short : length text ≤ Limits.text
-    short = leb-true (length text) Limits.text (left-true (leb (length text) Limits.text) (few && enough) is)
+    short = leb-true (length text) Limits.text (and-eq-true-iff (leb (length text) Limits.text) (few && enough) .0 is .0)
 
     pub room-enough : length (tokensOf text) * Limits.tokenWidth ≤ room
     room-enough =
-        let both = right-true (leb (length text) Limits.text) (few && enough) is in
-        leb-true (length (tokensOf text) * Limits.tokenWidth) room (right-true few enough both)
+        let rest = and-eq-true-iff (leb (length text) Limits.text) (few && enough) .0 is .1 in
+        leb-true (length (tokensOf text) * Limits.tokenWidth) room (and-eq-true-iff few enough .0 rest .1)

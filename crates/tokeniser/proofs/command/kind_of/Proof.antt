@@ -8,9 +8,10 @@ use borrow.Author.Needs.{needs}
 use native.Mathlib.Omega.{arith}
 use Rattle.rules.specs.Commands.{spellings, kindOf}
 use Rattle.rules.specs.Notation.{bytes}
+use Rattle.rules.proofs.AllUnder.{by-place}
 use Rattle.syntax.proofs.Arms.{no-key}
 use Rattle.tokeniser.specs.Names.{numberFrom}
-use Rattle.tokeniser.proofs.ByNumber.{byNumber, numbered, kind-by-number, long-is-generic, slice-bytes}
+use Rattle.tokeniser.proofs.ByNumber.{byNumber, numbered, kind-by-number, long-is-generic}
 use Rattle.tokeniser.proofs.Entries.{at-key, no-entry}
 use Rattle.tokeniser.proofs.command.kind_of.Statement.{statement}
 use Rattle.tokeniser.proofs.command.kind_of.Tie as tie
@@ -38,7 +39,7 @@ kind c =
     let known = c .before .before in
     let name = known .before .args .name .now in
     ap byNumber (c .number .ensures)
-    ∙ sym (kind-by-number name (slice-bytes name (λ i. omega (arith, known .shared-slice-known .given i))))
+    ∙ sym (kind-by-number name (by-place 256 name (λ i there. omega (arith, known .shared-slice-known .given i))))
 
 returns-2 : tie.Need-returns-2
 unfolding numberFrom

@@ -1,7 +1,7 @@
 -- `command` meets its contract: the name ends where the rule says, its kind is the rule's, and a name in braces goes with \begin and \end.
 -- Assumes nothing.
 use Prim.Native.Nat.{_+_, _≤_}
-use mathlib.Core.Path.{_≡_, sym, _∙_}
+use mathlib.Core.Path.{sym, _∙_}
 use borrow.Author.Needs.{needs}
 use lib.ListN.{length}
 use Rattle.tokeniser.proofs.Stops.{name-inside, name-inside-braces, takes-none, has-none, named-command}

@@ -6,13 +6,12 @@ use borrow.Author.Needs.{needs}
 use native.Mathlib.Omega.{arith}
 use lib.ListN.{length}
 use Rattle.rules.proofs.Checks.{none-passed}
-use Rattle.tokeniser.proofs.Cutting.{Low, low-too, high-here, none-high}
-use Rattle.tokeniser.proofs.High.{no-high}
+use Rattle.tokeniser.proofs.High.{no-high, NoneBefore, none-here, high-here, none-at-all}
 use Rattle.tokeniser.proofs.rows.first_high.Statement.{statement}
 use Rattle.tokeniser.proofs.rows.first_high.Tie as tie
 
 abbrev Inv-loop : tie.InvT-loop
-Inv-loop text at₀ at = Low text at
+Inv-loop text at₀ at = NoneBefore text at
 
 abbrev μ-loop : tie.MeasureT-loop
 μ-loop text at₀ at = length text - at
@@ -35,10 +34,10 @@ returns-2 c =
 loop-again : tie.Need-loop-again Inv-loop μ-loop
 loop-again c =
     let inside = c .before .before in
-    low-too (text (inside .before)) (inside .before .loop .inv) (inside .loop-test .taken) (c .if2 .left)
+    none-here (text (inside .before)) (inside .before .loop .inv) (inside .loop-test .taken) (c .if2 .left)
 
 returns-3 : tie.Need-returns-3 Inv-loop μ-loop
-returns-3 c = none-high (text (c .before)) (c .before .loop .inv) (c .loop-test .left)
+returns-3 c = none-at-all (text (c .before)) (c .before .loop .inv) (c .loop-test .left)
 
 pub first-high-spec : {M : Type 1} → statement M
 first-high-spec =

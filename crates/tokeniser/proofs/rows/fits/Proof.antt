@@ -1,11 +1,8 @@
 -- `fits` meets its contract: each test is the rule's, and where there is room for as many tokens as bytes they need not be counted. Assumes nothing.
-use Prim.Native.Nat.{ℕ, _≤_}
 use mathlib.Core.Bool.{true, false, false≢true}
-use mathlib.Core.List.{List}
 use mathlib.Core.Path.{refl, sym}
 use borrow.Author.Needs.{needs}
 use lib.ListN.{length}
-use Rattle.rules.specs.Limits.{text as mostText}
 use Rattle.tokeniser.proofs.Judged.{too-long, surely, too-many, by-room}
 use Rattle.tokeniser.proofs.rows.fits.Statement.{statement}
 use Rattle.tokeniser.proofs.rows.fits.Tie as tie

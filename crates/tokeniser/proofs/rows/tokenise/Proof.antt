@@ -10,7 +10,7 @@ use Rattle.rules.specs.Run.{over}
 use Rattle.rules.specs.Tokeniser.{written, refusedAt, tokenRows}
 use Rattle.rules.specs.Tokeniser as rules
 use Rattle.tokeniser.specs.Bytes.{Ascii}
-use Rattle.tokeniser.proofs.Cutting.{ascii}
+use Rattle.tokeniser.proofs.High.{ascii}
 use Rattle.tokeniser.proofs.Judged.{high, no-high, refused, fine, short, room-enough}
 use Rattle.tokeniser.proofs.rows.tokenise.Statement.{statement}
 use Rattle.tokeniser.proofs.rows.tokenise.Tie as tie

@@ -1,5 +1,5 @@
 -- `bits` meets its contract: antt computes that all 128 digits of each class are the rule's. Assumes nothing.
-use mathlib.Core.Path.{refl, sym}
+use mathlib.Core.Path.{refl}
 use borrow.Author.Needs.{needs}
 use Rattle.tokeniser.proofs.Bytes.{by-test}
 use Rattle.tokeniser.proofs.class.Class.bits.Statement.{statement}
