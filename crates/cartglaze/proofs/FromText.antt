@@ -1,17 +1,19 @@
 -- From the text to the tree, for a client of both calls: whoever has what their contracts say, of a text that was taken and of a run on its rows, has
 -- the theorems about the rules on these buffers. Assumes nothing.
-use mathlib.Core.Path.{_≡_, sym, ap, _∙_}
+use mathlib.Core.Path.{_≡_, sym, ap, subst, _∙_}
 use mathlib.Core.List.{List}
 use Prim.Native.Nat.{ℕ, _*_}
-use lib.ListN.{take}
+use lib.ListN.{length, take}
 use Rattle.rules.specs.Checks.{Tables}
 use Rattle.rules.specs.FormulaText.{kept, formulaText}
 use Rattle.rules.specs.Limits.{tokenWidth}
 use Rattle.rules.specs.PutBack.{treeRows, droppedRows}
 use Rattle.rules.specs.Run.{Ran, run}
-use Rattle.rules.specs.Tokeniser.{written, tokenise}
+use Rattle.rules.specs.Tokeniser.{written, tokenRows, tokenise, Tiles, Longest}
 use Rattle.rules.specs.Tokeniser as tokeniser
+use Rattle.rules.proofs.Longest.{each-longest}
 use Rattle.rules.proofs.TextReturns as rules
+use Rattle.rules.proofs.Tiled.{tiled}
 use Rattle.rules.proofs.Tokenised.{wrote}
 use Rattle.rules.proofs.Tokenised as tokenised
 use Rattle.listings.specs.Stands.{ranOf}
@@ -32,6 +34,17 @@ module _ (t : Tables) {before after : List ℕ} {count : ℕ} (cut : Cut t befor
   rows : t .tokens ≡ take (count * tokenWidth) (tokenise (t .text) before .1)
   rows = cut .tokens ∙ ap (λ (d : tokeniser.Tokenised × List ℕ). take (count * tokenWidth) (d .1)) (cut .met)
 
+  are : t .tokens ≡ tokenRows (t .text)
+  are = rows ∙ wrote (t .text) before answered .rows
+
+  -- "Every byte lies in exactly one token's source range"
+  pub tiles : Tiles (t .tokens) (length (t .text)) 0 0
+  tiles = subst (λ l. Tiles l (length (t .text)) 0 0) (sym are) (tiled (t .text) .tiles)
+
+  -- each token is the longest match at its place
+  pub longest : Longest (t .text) (t .tokens) 0 0
+  longest = subst (λ l. Longest (t .text) l 0 0) (sym are) (each-longest (t .text))
+
   -- a run on it is never refused 3
   pub never-refused-3 : {place : ℕ} {v w : List ℕ} → run t tree dropped ≡ ranOf (Refused 3 place) v w → ⊥
   never-refused-3 e = tokenised.never-refused-3 t tree dropped before answered rows (ap (λ (r : Ran). r .answer) e)
@@ -40,5 +53,4 @@ module _ (t : Tables) {before after : List ℕ} {count : ℕ} (cut : Cut t befor
   pub text-returns : {tree-rows drops : ℕ} {v w : List ℕ} → Met t tree dropped tree-rows drops v w
       → formulaText (kept (t .text) (t .tokens) (treeRows tree-rows v) (droppedRows drops w)) ≡ t .text
   text-returns met =
-      let are = rows ∙ wrote (t .text) before answered .rows in
       rw met at (rules.text-returns t tree dropped (ap (λ (r : Ran). r .answer) met) are)
