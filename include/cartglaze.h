@@ -46,7 +46,7 @@ extern "C" {
  * True: *first is the count of token rows, and *second is 0. The rows stand at the beginning of `tokens`, and every later element is as it was. Their
  * shape numbers are 0: no command takes arguments until the caller sets the number of its shape.
  * False: *first is the number of refusal and *second its place, counted from 0. `tokens` is as it was.
- *   11  a byte over 127, be the text ever so long                       its offset, of the first one
+ *   11  a byte over 127, be the text ever so long                        its offset, of the first one
  *   1   more than 65,535 bytes, more than 16,384 tokens, or fewer than   0
  *       CARTGLAZE_TOKEN_ROW numbers lent for each token
  * There are no more tokens than bytes, so CARTGLAZE_TOKEN_ROW numbers a byte are always enough, and CARTGLAZE_TOKEN_ROW * 16384 are too.
