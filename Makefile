@@ -55,7 +55,7 @@ record:
 oracle-test:
 	./oracle/test
 
-# The proved library held against the real Rust, over so many formulas, by shape numbers and by names.
+# The proved library held against the real Rust, over so many formulas.
 CASES = 2000000
 SEED = 1
 differ:
@@ -68,15 +68,14 @@ lex:
 	./oracle/beside
 	nice target/oracle/release/lex $(CASES) $(SEED)
 
-# Tables that no lexer makes, rows that no run gives, and any bytes as a text and as lists of names, against the model: some thousand under valgrind
-# first, then so many.
+# Tables that no lexer makes, rows that no run gives, and any bytes as a text, against the model: some thousand under valgrind first, then so many.
 HOSTILE = 1000000
 hostile:
 	./oracle/beside
 	nice valgrind --quiet --error-exitcode=9 target/oracle/release/hostile 20000 $(SEED) bare
 	nice target/oracle/release/hostile $(HOSTILE) $(SEED)
 
-# The port, the Rust's parser and a Vec of rows on the same tokens, and the port by names; before them what the library calls, and its stack.
+# The port, the Rust's parser and a Vec of rows on the same tokens; before them what the library calls, and its stack.
 bench:
 	./oracle/beside
 	nm -u $(LIBRARY)/libffi.a

@@ -1,5 +1,5 @@
 /* Document 01's whole case, `\frac 1 2`, through the C face: its text cut into token rows, the listing that `treelist` prints for it, then each leaf's
- * token and text, two formulas' questions, the same case by names, and refusals. */
+ * token and text, two formulas' questions, and refusals. */
 #include <inttypes.h>
 #include <stdio.h>
 #include <string.h>
@@ -86,38 +86,6 @@ static void formulas(void)
     formula("$", lone, COUNT(lone));
 }
 
-/* A house list in which \frac takes two arguments, and a default list in which it takes one and \sqrt does too. */
-static const uint8_t house[] = {1, 0, 8, 1, 1, 0, 2, 'f', 'r', 'a', 'c'};
-static const uint8_t usual[] = {1, 0, 8, 1, 1, 0, 1, 'f', 'r', 'a', 'c', 0, 8, 1, 1, 0, 1, 's', 'q', 'r', 't'};
-
-static void look_up(const char *name)
-{
-    size_t start, size;
-    bool own = cartglaze_lookup(house, COUNT(house), usual, COUNT(usual), (const uint8_t *)name, strlen(name), &start, &size);
-    printf("%s in %s %zu %zu\n", name, own ? "house" : "default", start, size);
-}
-
-/* The case again by names: the rows are those that were read by numbers, and the shape number in the first token is ignored. */
-static void names(const uint32_t *read, size_t rows)
-{
-    uint32_t tree[11 * CARTGLAZE_TREE_ROW], dropped[15];
-    size_t first, second, place;
-    look_up("frac");
-    look_up("sqrt");
-    look_up("jam");
-    tokens[3] = 9;
-    if (cartglaze_run_by_names((const uint8_t *)text, strlen(text), tokens, COUNT(tokens), house, COUNT(house), usual, COUNT(usual), states, 0,
-                               tree, COUNT(tree), dropped, COUNT(dropped), &first, &second)) {
-        bool same = memcmp(tree, read, rows * CARTGLAZE_TREE_ROW * sizeof *tree) == 0;
-        printf("by names ok %zu %zu, %s\n", first, second, same ? "the same rows" : "other rows");
-    }
-    tokens[3] = 1;
-    /* A byte too few: the second entry is cut short. */
-    if (!cartglaze_check_lists(house, COUNT(house), usual, COUNT(usual) - 1, &place)) {
-        printf("refused 10 %zu\n", place);
-    }
-}
-
 int main(void)
 {
     uint32_t tree[11 * CARTGLAZE_TREE_ROW], dropped[15];
@@ -133,7 +101,6 @@ int main(void)
     list(true, first, second, tree, COUNT(tree), dropped);
     leaves(tree, first);
     formulas();
-    names(tree, first);
 
     /* A number too few for the last row: refused 8, and zeros behind it. */
     if (!run(tree, COUNT(tree) - 1, dropped, &first, &second)) {

@@ -1,6 +1,5 @@
-/* Cartglaze for C: a formula's text into token rows, lists of names, mitex's parser over tables of numbers, sheets that hold such tables, and the
- * listing of an answer. The functions of crates/ffi/src (tokens.rt, lists.rt, runs.rt, questions in lib.rt, sheet.rt, listing.rt), with what each
- * promises.
+/* Cartglaze for C: a formula's text into token rows, mitex's parser over tables of numbers, sheets that hold such tables, and the listing of an
+ * answer. The functions of crates/ffi/src (run and questions in lib.rt, tokens.rt, sheet.rt, listing.rt), with what each promises.
  *
  * Link target/staticlib/libffi.a, by that path (another library has the name libffi). `rt staticlib ffi` writes it.
  *
@@ -10,11 +9,11 @@
  *   - A pointer to a single result (`size_t *`) is not null, and is aligned too.
  *   - What is written to overlaps nothing else that is passed: `tokens` of cartglaze_tokenise, `tree`, `dropped`, `numbers`, `out` and each single
  *     result.
- * Nothing more: any bytes may stand in a text, in a list and in a sheet, and any numbers in the tables and in the rows. The contracts are proved for
- * callers that keep to this.
+ * Nothing more: any bytes may stand in a text and in a sheet, and any numbers in the tables and in the rows. The contracts are proved for callers that
+ * keep to this.
  *
  * Stack: a run takes more the more nodes are open, and no more than 128 ever are. Formulas with so many were read on a thread with a stack of
- * 316 KiB, and not on one with 4 KiB less; the thread's own start takes a part of it. That is measured, on aarch64, and not proved; `make bench`
+ * 304 KiB, and not on one with 4 KiB less; the thread's own start takes a part of it. That is measured, on x86-64, and not proved; `make bench`
  * measures it again. Nothing is taken from the heap.
  *
  * Tables, all of whole rows:
@@ -45,7 +44,7 @@ extern "C" {
 /* The token rows of a formula's text. It always returns, and says whether it has written them.
  *
  * True: *first is the count of token rows, and *second is 0. The rows stand at the beginning of `tokens`, and every later element is as it was. Their
- * shape numbers are 0: in cartglaze_run no command takes arguments until the caller sets the number of its shape; cartglaze_run_by_names ignores them.
+ * shape numbers are 0: no command takes arguments until the caller sets the number of its shape.
  * False: *first is the number of refusal and *second its place, counted from 0. `tokens` is as it was.
  *   11  a byte over 127, be the text ever so long                        its offset, of the first one
  *   1   more than 65,535 bytes, more than 16,384 tokens, or fewer than   0
@@ -53,8 +52,8 @@ extern "C" {
  * There are no more tokens than bytes, so CARTGLAZE_TOKEN_ROW numbers a byte are always enough, and CARTGLAZE_TOKEN_ROW * 16384 are too.
  *
  * A row's text is its part of `text`; the text of \begin{name} and \end{name} (27 and 28) is the name alone. The rows as they are written, *first times
- * CARTGLAZE_TOKEN_ROW numbers, are never refused 3 by either run with the same text; a shape number that the caller sets is judged by cartglaze_run as
- * ever. The same text and length of `tokens` always give the same result. */
+ * CARTGLAZE_TOKEN_ROW numbers, are never refused 3 by cartglaze_run with the same text; a shape number that the caller sets is judged as ever. The same
+ * text and length of `tokens` always give the same result. */
 bool cartglaze_tokenise(const uint8_t *text, size_t text_length, uint32_t *tokens, size_t tokens_length, size_t *first, size_t *second);
 
 /* So many numbers make a tree row. A tree buffer is so many rows: its length divided by this, rounded down. What is left over behind the last whole
@@ -84,54 +83,6 @@ bool cartglaze_run(const uint8_t *text, size_t text_length,
                    uint32_t *tree, size_t tree_length,
                    uint32_t *dropped, size_t dropped_length,
                    size_t *first, size_t *second);
-
-/* Lists of names: version byte 1, then entries one behind the other. An entry is the 2-byte big-endian length of its rest, a byte each for class and
- * form, a 2-byte big-endian value, and then the name, which may be empty. Class, form and value are those of a shape row. There is no limit on
- * entries. A caller without a list lends the one byte 1.
- *
- * `house` is the list of one's own commands and `usual` the default list; the first entry with a name decides, the house list before the default. */
-
-/* Whether both lists are right. It always returns.
- *
- * True: *place is 0.
- * False: refusal 10, and *place is the entry within its list, counted from 0, of the first fault, the house list before the default list: a list of
- * another version or of no bytes (place 0), an entry that is cut short, one with a rest under 4 bytes, or one with a class, form or value that shapes
- * don't have. Which state a glob begins with is asked by cartglaze_run_by_names alone. */
-bool cartglaze_check_lists(const uint8_t *house, size_t house_length, const uint8_t *usual, size_t usual_length, size_t *place);
-
-/* The lookup of a name by its bytes, whatever the entry's class is. It always returns, and says whether the house list holds what is found.
- *
- * True: the first entry of `house` with the name is its *size bytes from *start on, the two of its length included.
- * False: the same of `usual`; and where neither list has the name, or cartglaze_check_lists says false of them, *start and *size are 0.
- *
- * *start + *size is at most that list's length. The same lists and name always give the same result. */
-bool cartglaze_lookup(const uint8_t *house, size_t house_length, const uint8_t *usual, size_t usual_length, const uint8_t *name, size_t name_length,
-                      size_t *start, size_t *size);
-
-/* The whole run by names: as cartglaze_run, but that shapes come from two lists of names, and the tokens' shape numbers are ignored.
- *
- * A token's shape is that of the first entry with its name. A command's name (kinds 26, 35, 36, 37, 39) is its text after the backslash, and without
- * that backslash it has none; an environment's (kind 27) is its text. An entry whose class doesn't fit the token counts as no shape, and hides one
- * that stands behind it.
- *
- * False: as of cartglaze_run, in the order 1, 2, 3, 10, 4 and then while reading 5 to 8, where
- *   3   doesn't ask about shape numbers
- *   10  is what cartglaze_check_lists says                             its place; both buffers are as they were
- *   4   a glob entry whose value is no state, or a state row           entries of `house`, then those of `usual`, then states, counted on
- *
- * Stack: more than cartglaze_run takes, since a table with a row for each of 16,384 tokens and two indexes stand there. Formulas with 128 nodes open
- * were read by names on a thread with a stack of 636 KiB, and not on one with 4 KiB less; measured, on aarch64, and not proved. Nothing is taken from
- * the heap.
- *
- * The same tables, lists and lengths of buffers always give the same result. */
-bool cartglaze_run_by_names(const uint8_t *text, size_t text_length,
-                            const uint32_t *tokens, size_t tokens_length,
-                            const uint8_t *house, size_t house_length,
-                            const uint8_t *usual, size_t usual_length,
-                            const uint32_t *states, size_t states_length,
-                            uint32_t *tree, size_t tree_length,
-                            uint32_t *dropped, size_t dropped_length,
-                            size_t *first, size_t *second);
 
 /* Questions about row `row` of tree rows, for any numbers in their place and any row. None looks at a row's last number.
  *
@@ -179,8 +130,8 @@ size_t cartglaze_leaf_length(const uint8_t *text, size_t text_length, const uint
 bool cartglaze_read(const uint8_t *sheet, size_t sheet_length, uint32_t *numbers, size_t numbers_length,
                     size_t *text, size_t *tokens, size_t *shapes, size_t *states, size_t *needed);
 
-/* The listing of an answer, as lines of text with no 0 behind them. `accepted`, `first` and `second` are what a run gave, with both buffers as it
- * left them; for refusal 9 they are false, 9 and 0. It always returns, and says whether the lines have room.
+/* The listing of an answer, as lines of text with no 0 behind them. `accepted`, `first` and `second` are what cartglaze_run gave, with both buffers
+ * as it left them; for refusal 9 they are false, 9 and 0. It always returns, and says whether the lines have room.
  *
  * True: they stand at the beginning of `out`, *length bytes; every later byte is as it was.
  * False: `out` is as it was, and they would have *length bytes (from 2^64 - 1 on, that number).

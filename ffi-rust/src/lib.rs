@@ -2,7 +2,7 @@
 //! Rust's types don't ask.
 //!
 //! A run needs stack, more the more nodes are open, and no more than 128 ever are. Formulas with so many were read on a thread with a stack of
-//! 316 KiB, and not on one with 4 KiB less; the thread's own start takes a part of it. That is measured, on aarch64, and not proved; `make bench`
+//! 304 KiB, and not on one with 4 KiB less; the thread's own start takes a part of it. That is measured, on x86-64, and not proved; `make bench`
 //! measures it again. A thread that Rust makes has 2 MiB unless its builder says another number. Nothing is taken from the heap.
 #![deny(missing_docs)]
 
@@ -24,41 +24,6 @@ mod raw {
             tokens_length: usize,
             shapes: *const u32,
             shapes_length: usize,
-            states: *const u32,
-            states_length: usize,
-            tree: *mut u32,
-            tree_length: usize,
-            dropped: *mut u32,
-            dropped_length: usize,
-            first: *mut usize,
-            second: *mut usize,
-        ) -> bool;
-        pub fn cartglaze_check_lists(
-            house: *const u8,
-            house_length: usize,
-            usual: *const u8,
-            usual_length: usize,
-            place: *mut usize,
-        ) -> bool;
-        pub fn cartglaze_lookup(
-            house: *const u8,
-            house_length: usize,
-            usual: *const u8,
-            usual_length: usize,
-            name: *const u8,
-            name_length: usize,
-            start: *mut usize,
-            size: *mut usize,
-        ) -> bool;
-        pub fn cartglaze_run_by_names(
-            text: *const u8,
-            text_length: usize,
-            tokens: *const u32,
-            tokens_length: usize,
-            house: *const u8,
-            house_length: usize,
-            usual: *const u8,
-            usual_length: usize,
             states: *const u32,
             states_length: usize,
             tree: *mut u32,
@@ -163,7 +128,7 @@ pub enum Answer {
         /// The count of dropped rows.
         dropped: usize,
     },
-    /// 1 to 4, and 10 of a run by names, leave the buffers as they were; 5 to 8 leave zeros.
+    /// 1 to 4 leave the buffers as they were; 5 to 8 leave zeros.
     Refused {
         /// The number of refusal.
         number: usize,
@@ -185,93 +150,6 @@ pub fn run(tables: Tables, tree: &mut [u32], dropped: &mut [u32]) -> Answer {
             tokens.len(),
             shapes.as_ptr(),
             shapes.len(),
-            states.as_ptr(),
-            states.len(),
-            tree.as_mut_ptr(),
-            tree.len(),
-            dropped.as_mut_ptr(),
-            dropped.len(),
-            &mut first,
-            &mut second,
-        )
-    };
-    if accepted {
-        Answer::Accepted { rows: first, dropped: second }
-    } else {
-        Answer::Refused { number: first, place: second }
-    }
-}
-
-/// Whether two lists of names are right: `Err` is refusal 10's place, the entry within its list, 0 for the version. The house list is judged first.
-///
-/// A list is the version byte 1 and then entries: each the 2-byte big-endian length of its rest, a byte each for class and form, a 2-byte value, and
-/// the name. A list without entries is the one byte 1; a list of no bytes is refused. A glob's value is judged by [`run_by_names`] alone.
-pub fn check_lists(house: &[u8], usual: &[u8]) -> Result<(), usize> {
-    let mut place = 0;
-    // SAFETY: each pointer with its length is a slice that lives through the call, and what is written to is borrowed `mut`.
-    let right = unsafe { raw::cartglaze_check_lists(house.as_ptr(), house.len(), usual.as_ptr(), usual.len(), &mut place) };
-    if right {
-        Ok(())
-    } else {
-        Err(place)
-    }
-}
-
-/// The bytes of the first entry with that name, its length included, as a part of the list that holds it: the house list before the default list
-/// `usual`. If there is none, or a list has a fault, it is the empty part at the default list's start.
-pub fn lookup<'a>(house: &'a [u8], usual: &'a [u8], name: &[u8]) -> &'a [u8] {
-    let (mut start, mut size) = (0, 0);
-    // SAFETY: each pointer with its length is a slice that lives through the call, and what is written to is borrowed `mut`.
-    let in_house = unsafe {
-        raw::cartglaze_lookup(
-            house.as_ptr(),
-            house.len(),
-            usual.as_ptr(),
-            usual.len(),
-            name.as_ptr(),
-            name.len(),
-            &mut start,
-            &mut size,
-        )
-    };
-    let list = if in_house { house } else { usual };
-    &list[start..start + size]
-}
-
-/// The tables that come into a run by names: two lists, as [`check_lists`] has them, in the place of shapes.
-#[derive(Clone, Copy, Debug, PartialEq, Eq)]
-pub struct NamedTables<'a> {
-    /// The text's bytes.
-    pub text: &'a [u8],
-    /// Kind, start, length, and a number that is ignored.
-    pub tokens: &'a [u32],
-    /// The house list.
-    pub house: &'a [u8],
-    /// The default list.
-    pub usual: &'a [u8],
-    /// The next state for t, b, p.
-    pub states: &'a [u32],
-}
-
-/// The whole run by names: like [`run`], but that a token's shape is that of the first entry with its name, if the entry's class fits the token. A
-/// command's name is its text after the backslash, an environment's its text. Refusal 10, a fault in a list, comes between 3 and 4 and leaves the
-/// buffers as they were; the places of 4 count the house list's entries, then the default list's, then the states.
-///
-/// It needs more stack than [`run`]: with 128 nodes open 636 KiB, and not 4 KiB less (measured, on aarch64; `make bench` measures both).
-pub fn run_by_names(tables: NamedTables, tree: &mut [u32], dropped: &mut [u32]) -> Answer {
-    let NamedTables { text, tokens, house, usual, states } = tables;
-    let (mut first, mut second) = (0, 0);
-    // SAFETY: each pointer with its length is a slice that lives through the call, and what is written to is borrowed `mut`.
-    let accepted = unsafe {
-        raw::cartglaze_run_by_names(
-            text.as_ptr(),
-            text.len(),
-            tokens.as_ptr(),
-            tokens.len(),
-            house.as_ptr(),
-            house.len(),
-            usual.as_ptr(),
-            usual.len(),
             states.as_ptr(),
             states.len(),
             tree.as_mut_ptr(),
@@ -385,7 +263,7 @@ pub enum Listed {
     },
 }
 
-/// The listing of an answer and of both buffers, as a run left them: the lines that `treelist` prints.
+/// The listing of an answer and of both buffers, as [`run`] left them: the lines that `treelist` prints.
 pub fn list(answer: Answer, tree: &[u32], dropped: &[u32], out: &mut [u8]) -> Listed {
     let (accepted, first, second) = match answer {
         Answer::Accepted { rows, dropped } => (true, rows, dropped),

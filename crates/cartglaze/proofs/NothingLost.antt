@@ -1,20 +1,17 @@
--- Demand 3, and what 02's #101 says of leaves, for a client of the run, by numbers or by names: whoever has an accepted answer and both buffers, and
--- knows of them what the contract says, has the theorems about the rules' run on these buffers, without a look into the parser. Assumes nothing.
-use mathlib.Core.Path.{◌≡◌, ap}
+-- Demand 3, and what 02's #101 says of leaves, for a client of the run: whoever has an accepted answer and both buffers, and knows of them what the
+-- contract says, has the theorems about the rules' run on these buffers, without a look into the parser. Assumes nothing.
+use mathlib.Core.Path.{◌≡◌, sym, ap, ◌∙◌}
 use mathlib.Core.List.{List}
 use Prim.Native.Nat.{ℕ, ◌<◌}
 use lib.ListN.{length}
-use Rattle.rules.specs.Checks.{Tables, source_of}
+use Rattle.rules.specs.Checks.{Tables}
 use Rattle.rules.specs.Flat.{tag_leaf}
-use Rattle.rules.specs.NamedRun.{Named, source_by_name, unshaped, run_by_name}
 use Rattle.rules.specs.PutBack.{tree_rows, dropped_rows, leaves, Stored, stored, put_back, token_texts, EachToken, stretch_at, InToken, Rises}
 use Rattle.rules.specs.Questions.{tag_at}
 use Rattle.rules.specs.Run.{Ran, accepted, run}
 use Rattle.rules.specs.Exactly.{RanExactly}
 use Rattle.rules.proofs.Exactly.{run-exactly}
-use Rattle.rules.proofs.NamedRuns as named
 use Rattle.rules.proofs.NothingLost as rules
-use Rattle.rules.proofs.NothingLost.{apart}
 use Rattle.listings.specs.Stands.{ran_of}
 use Rattle.listings.specs.declared.answer.Answer.TheVariants.{Accepted}
 
@@ -22,14 +19,10 @@ use Rattle.listings.specs.declared.answer.Answer.TheVariants.{Accepted}
 abbrev pub Met : Tables → List ℕ → List ℕ → ℕ → ℕ → List ℕ → List ℕ → Type 0
 Met t tree dropped rows drops v w = run t tree dropped ≡ ran_of (Accepted rows drops) v w
 
-abbrev pub MetByName : Named → List ℕ → List ℕ → ℕ → ℕ → List ℕ → List ℕ → Type 0
-MetByName n tree dropped rows drops v w = run_by_name n tree dropped ≡ ran_of (Accepted rows drops) v w
-
 -- what can be stored of the rows that the answer counts
 abbrev pub stored_in : Tables → ℕ → ℕ → List ℕ → List ℕ → Stored
 stored_in t rows drops v w = stored t.text t.tokens (tree_rows rows v) (dropped_rows drops w)
 
--- ---- by numbers
 module _ (t : Tables) (tree dropped : List ℕ) {rows drops : ℕ} {v w : List ℕ} (met : Met t tree dropped rows drops v w) where
   answered : (run t tree dropped).answer ≡ accepted rows drops
   answered = ap (λ (r : Ran). r.answer) met
@@ -51,7 +44,7 @@ module _ (t : Tables) (tree dropped : List ℕ) {rows drops : ℕ} {v w : List �
   texts_return = rw met at (rules.texts_return t tree dropped answered)
 
   -- "Dropped are exactly .."
-  pub dropped-exactly : RanExactly (source_of t) (length tree) rows drops (ran_of (Accepted rows drops) v w)
+  pub dropped-exactly : RanExactly t (length tree) rows drops (ran_of (Accepted rows drops) v w)
   dropped-exactly = rw met at (run-exactly t tree dropped rows drops answered)
 
 -- "So two accepted inputs whose joined texts differ never share tree, leaf texts and dropped list with its texts."
@@ -60,47 +53,5 @@ pub never_share : (t t' : Tables) (tree dropped tree' dropped' : List ℕ) {rows
     → (token_texts t.text t.tokens ≡ token_texts t'.text t'.tokens → ⊥)
     → stored_in t rows drops v w ≡ stored_in t' rows' drops' v' w'
     → ⊥
-never_share t t' tree dropped tree' dropped' met met' = apart put_back (texts_return t tree dropped met) (texts_return t' tree' dropped' met')
-
--- ---- by names, the same
-module _ (n : Named) (tree dropped : List ℕ) {rows drops : ℕ} {v w : List ℕ} (met : MetByName n tree dropped rows drops v w) where
-  answered_by_name : (run_by_name n tree dropped).answer ≡ accepted rows drops
-  answered_by_name = ap (λ (r : Ran). r.answer) met
-
-  -- each token is a leaf, the parts of a split Word, or one dropped row
-  pub each-token_by_name : EachToken n.tokens 0 0 (leaves (tree_rows rows v)) (dropped_rows drops w)
-  each-token_by_name = rw met at (named.each-token n tree dropped answered_by_name)
-
-  -- a leaf lies inside its own token
-  pub leaf-token_by_name : (row : ℕ) → row < rows → tag_at v row ≡ tag_leaf → InToken n.tokens (stretch_at v row)
-  leaf-token_by_name = rw met at (named.leaf-token n tree dropped answered_by_name)
-
-  -- dropped rows rise by token
-  pub dropped-rise_by_name : Rises n.tokens 0 (dropped_rows drops w)
-  dropped-rise_by_name = rw met at (named.dropped-rise n tree dropped answered_by_name)
-
-  -- the token texts return
-  pub texts_return_by_name : put_back (stored_in (unshaped n) rows drops v w) ≡ token_texts n.text n.tokens
-  texts_return_by_name = rw met at (named.texts_return n tree dropped answered_by_name)
-
-  -- what is dropped is exactly what the demand lists, with the shapes that the names give
-  pub dropped-exactly_by_name : RanExactly (source_by_name n) (length tree) rows drops (ran_of (Accepted rows drops) v w)
-  dropped-exactly_by_name = rw met at (named.dropped-exactly n tree dropped answered_by_name)
-
--- two inputs whose joined texts differ never share what can be stored
-pub never_share_by_name : (n n' : Named) (tree dropped tree' dropped' : List ℕ) {rows drops rows' drops' : ℕ} {v w v' w' : List ℕ}
-    → MetByName n tree dropped rows drops v w → MetByName n' tree' dropped' rows' drops' v' w'
-    → (token_texts n.text n.tokens ≡ token_texts n'.text n'.tokens → ⊥)
-    → stored_in (unshaped n) rows drops v w ≡ stored_in (unshaped n') rows' drops' v' w'
-    → ⊥
-never_share_by_name n n' tree dropped tree' dropped' met met' =
-    apart put_back (texts_return_by_name n tree dropped met) (texts_return_by_name n' tree' dropped' met')
-
--- nor do one by names and one by numbers
-pub never_share_either : (n : Named) (t : Tables) (tree dropped tree' dropped' : List ℕ) {rows drops rows' drops' : ℕ} {v w v' w' : List ℕ}
-    → MetByName n tree dropped rows drops v w → Met t tree' dropped' rows' drops' v' w'
-    → (token_texts n.text n.tokens ≡ token_texts t.text t.tokens → ⊥)
-    → stored_in (unshaped n) rows drops v w ≡ stored_in t rows' drops' v' w'
-    → ⊥
-never_share_either n t tree dropped tree' dropped' met met' =
-    apart put_back (texts_return_by_name n tree dropped met) (texts_return t tree' dropped' met')
+never_share t t' tree dropped tree' dropped' met met' differ same =
+    differ (sym (texts_return t tree dropped met) ∙ ap put_back same ∙ texts_return t' tree' dropped' met')

@@ -1,10 +1,12 @@
--- The contracts of both runs fix what they speak of: two results that meet one are equal, for no two answers stand for the same. The questions' are
--- fixed in crates/questions/proofs/Only.antt, the lookup's in crates/names/proofs/Only.antt. Assumes nothing.
+-- The run's contract fixes what it speaks of: two results that meet it are equal, for no two answers stand for the same. The questions' are fixed in
+-- crates/questions/proofs/Only.antt. Assumes nothing.
 use mathlib.Core.Path.{◌≡◌, sym, ap, ◌∙◌}
 use mathlib.Core.List.{List}
 use Prim.Native.Nat.{ℕ}
 use native.Mathlib.Omega.{arith}
+use Rattle.rules.specs.Checks.{Tables}
 use Rattle.rules.specs.Run as rules
+use Rattle.rules.specs.Run.{run}
 use Rattle.listings.specs.Stands.{answer_of, ran_of}
 use Rattle.listings.specs.declared.answer.Answer.{Answer}
 use Rattle.listings.specs.declared.answer.Answer.TheVariants.{Accepted, Refused}
@@ -31,9 +33,10 @@ same_answer (Refused number place) (Refused n p) e =
     let other : place ≡ p = omega (arith, ap second e) in
     rw (one, other)
 
--- the answer and every element of both buffers, of either run
-pub only_run : (ran : rules.Ran) (r s : Answer) (v v' w w' : List ℕ) → ran ≡ ran_of r v w → ran ≡ ran_of s v' w'
+-- the answer and every element of both buffers
+pub only_run : (t : Tables) (tree dropped : List ℕ) (r s : Answer) (v v' w w' : List ℕ) → run t tree dropped ≡ ran_of r v w
+    → run t tree dropped ≡ ran_of s v' w'
     → (r ≡ s) × ((v ≡ v') × (w ≡ w'))
-only_run ran r s v v' w w' e f =
+only_run t tree dropped r s v v' w w' e f =
     let same = sym e ∙ f in
     (same_answer r s (ap (λ x. x.answer) same), (ap (λ x. x.tree) same, ap (λ x. x.dropped) same))

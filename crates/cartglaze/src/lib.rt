@@ -1,14 +1,11 @@
-// The public face: a text's token rows, lists of names, the run by numbers and by names, the questions about the rows that it gives, sheets and the
-// listing of an answer.
+// The public face: a text's token rows, the run, the questions about the rows that it gives, sheets and the listing of an answer.
 mod clear;
-mod reading;
 mod whole;
 
 pub use listings::{Answer, Listed, list};
-pub use names::{Fault, Held, check_lists, locate, lookup};
 pub use questions::{
     LeafRange, is_display, is_inline, is_leaf, is_valid, is_whole, leaf_range, leaf_text,
 };
 pub use sheets::{Sections, Sheet, read};
 pub use tokeniser::{Tokenised, tokenise};
-pub use whole::{run, run_by_names};
+pub use whole::run;

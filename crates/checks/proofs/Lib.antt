@@ -2,5 +2,3 @@
 pub mod Answers
 pub mod Tests
 pub mod Rows
-pub mod Front
-pub mod Globs

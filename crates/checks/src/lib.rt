@@ -1,10 +1,8 @@
-// What is checked before reading, each refusal with its place: 1 to 4, and in a run by names 10 before 4.
+// What is checked before reading: refusals 1 to 4, each with its place.
 mod bad;
 mod limits;
-mod named;
 mod order;
 mod shapes;
 mod tokens;
 
-pub use named::check_by_names;
 pub use order::{Checked, check};

@@ -1,8 +1,7 @@
 // The checks in 01's order: 1 to 4, each with its place.
-ghost use Rattle.std.proofs.Math.Option.{none};
 ghost use Rattle.std.specs.Prelude.{◌≡◌};
 ghost use Rattle.rules.specs.Checks.{checks};
-ghost use Rattle.checks.specs.Checked.{tables, checked_of, front_by};
+ghost use Rattle.checks.specs.Checked.{tables, checked_of};
 
 use crate::bad::Bad;
 use crate::limits::within_limits;
@@ -17,17 +16,10 @@ pub enum Checked {
     Refused(u32, usize),
 }
 
-// Refusals 1, 2 and 3, beside a dropped buffer of so many numbers. In a run by names there are no shapes.
-pub fn before_shapes(
-    text: &[u8],
-    tokens: &[u32],
-    shapes: &[u32],
-    states: &[u32],
-    dropped: usize,
-    named: bool,
-) -> Checked
+// The tables are judged beside a dropped buffer of so many numbers. Nothing is asked of them.
+pub fn check(text: &[u8], tokens: &[u32], shapes: &[u32], states: &[u32], dropped: usize) -> Checked
     ensures { let t = tables text.now tokens.now shapes.now states.now in
-        front_by named t dropped none ≡ checked_of result }
+        checks t dropped ≡ checked_of result }
 {
     if !within_limits(text, tokens, shapes, states) {
         return Checked::Refused(Refusal::LIMIT, 0);
@@ -35,21 +27,9 @@ pub fn before_shapes(
     if dropped < tokens.len() / Limits::TOKEN_WIDTH * Limits::DROPPED_WIDTH {
         return Checked::Refused(Refusal::DROPPED_ROOM, 0);
     }
-    let token = first_bad_token(text, tokens, shapes, named);
+    let token = first_bad_token(text, tokens, shapes);
     if let Bad::Row(row) = token {
         return Checked::Refused(Refusal::TOKEN, row);
-    }
-    Checked::Fine
-}
-
-// The tables are judged beside a dropped buffer of so many numbers. Nothing is asked of them.
-pub fn check(text: &[u8], tokens: &[u32], shapes: &[u32], states: &[u32], dropped: usize) -> Checked
-    ensures { let t = tables text.now tokens.now shapes.now states.now in
-        checks t dropped ≡ checked_of result }
-{
-    let front = before_shapes(text, tokens, shapes, states, dropped, false);
-    if let Checked::Refused(number, place) = front {
-        return Checked::Refused(number, place);
     }
     let shape = first_bad_shape_or_state(shapes, states);
     if let Bad::Row(row) = shape {

@@ -1,7 +1,6 @@
 // Refusal 3: the first token row that is not as it must be.
-ghost use Rattle.std.specs.Prelude.{◌||◌, ◌≡◌, ◌+◌, ◌/◌, ◌≤◌, ◌<◌, leb, length};
-ghost use Rattle.rules.specs.Limits.{shape_width};
-ghost use Rattle.rules.specs.Tables.{length_at, shape_at, start_at, token_count};
+ghost use Rattle.std.specs.Prelude.{◌+◌, ◌≤◌, ◌<◌, length};
+ghost use Rattle.rules.specs.Tables.{length_at, start_at, token_count};
 ghost use Rattle.checks.specs.Checked.{Judged, FirstBad, word_row, token_row};
 
 use crate::bad::Bad;
@@ -18,21 +17,10 @@ fn word_right(text: &[u8], tokens: &[u32], token: usize) -> bool
     start < end && is_utf8(&text[start..end])
 }
 
-// Whether a token has a shape of the table. A run by names ignores shape numbers.
-fn number_right(tokens: &[u32], shapes: &[u32], token: usize, named: bool) -> bool
+// Whether a token row has a kind of the forty, lies inside the text, has a shape of the table, and is right if it is a Word.
+fn token_right(text: &[u8], tokens: &[u32], shapes: &[u32], token: usize) -> bool
     requires { token < token_count tokens.now }
-    ensures { result ≡ (named || leb (shape_at tokens.now token) (length shapes.now / shape_width)) }
-{
-    if named {
-        return true;
-    }
-    cell(tokens, token, Column::SHAPE) as usize <= shapes.len() / Limits::SHAPE_WIDTH
-}
-
-// Whether a token row has a kind of the forty, lies inside the text, has a right shape number, and is right if it is a Word.
-fn token_right(text: &[u8], tokens: &[u32], shapes: &[u32], token: usize, named: bool) -> bool
-    requires { token < token_count tokens.now }
-    ensures { Judged (token_row named text.now tokens.now shapes.now) token result }
+    ensures { Judged (token_row text.now tokens.now shapes.now) token result }
 {
     let kind = cell(tokens, token, Column::KIND);
     if Limits::KINDS <= kind as usize {
@@ -44,7 +32,7 @@ fn token_right(text: &[u8], tokens: &[u32], shapes: &[u32], token: usize, named:
     if text.len() < start + length {
         return false;
     }
-    if !number_right(tokens, shapes, token, named) {
+    if shapes.len() / Limits::SHAPE_WIDTH < cell(tokens, token, Column::SHAPE) as usize {
         return false;
     }
     if kind == Token::WORD {
@@ -54,13 +42,13 @@ fn token_right(text: &[u8], tokens: &[u32], shapes: &[u32], token: usize, named:
 }
 
 // Unused rows are looked at too.
-pub fn first_bad_token(text: &[u8], tokens: &[u32], shapes: &[u32], named: bool) -> Bad
+pub fn first_bad_token(text: &[u8], tokens: &[u32], shapes: &[u32]) -> Bad
     ensures { let tokens = tokens.entry.now in
-        FirstBad (token_row named text.now tokens shapes.now) (token_count tokens) result }
+        FirstBad (token_row text.now tokens shapes.now) (token_count tokens) result }
 {
     let count = tokens.len() / Limits::TOKEN_WIDTH;
     for token in 0..count {
-        if !token_right(text, tokens, shapes, token, named) {
+        if !token_right(text, tokens, shapes, token) {
             return Bad::Row(token);
         }
     }

@@ -8,7 +8,7 @@ use Rattle.rules.specs.Position as position
 use Rattle.rules.specs.Position.{Source, steps}
 use Rattle.rules.specs.Routines as spec
 use Rattle.rules.specs.SyntaxKind.{ClauseArgument}
-use Rattle.syntax.specs.Input.{Input, source_of}
+use Rattle.rules.specs.Checks.{Tables, source_of}
 use Rattle.builder.specs.Contract.{Fits}
 use Rattle.builder.specs.Stands as shown
 use Rattle.builder.specs.declared.Frame.{Frame as CodeFrame}
@@ -44,7 +44,7 @@ ignored-fits dropped fits = rw dropped.state fits
 pub word-still : (tokens : Slice) (p q : Parser) → q.lexer ≡ p.lexer → AtWord tokens p → AtWord tokens q
 word-still tokens p q same is = rw same is
 
-pub left-still : (tokens word : Slice) (p q : Parser) (t : Input) → q.lexer ≡ p.lexer → LeftOf tokens word p t → LeftOf tokens word q t
+pub left-still : (tokens word : Slice) (p q : Parser) (t : Tables) → q.lexer ≡ p.lexer → LeftOf tokens word p t → LeftOf tokens word q t
 left-still tokens word p q t same is = rw same is
 
 -- ---- its end

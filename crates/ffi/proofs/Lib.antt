@@ -1,3 +1,2 @@
 -- What the contracts of the exported functions fix.
-pub mod Told
 pub mod Only

@@ -10,8 +10,7 @@ use borrow.Author.Tests.{leb-false}
 use lib.Dec.{leb}
 use lib.ListN.{length}
 use Rattle.rules.specs.Checks.{Tables}
-use Rattle.rules.specs.Names.{Held}
-use Rattle.rules.specs.Run.{Answer, accepted, refused_at, Ran}
+use Rattle.rules.specs.Run.{Answer, accepted, refused_at, run}
 use Rattle.rules.specs.Tokeniser.{Tokenised}
 use Rattle.rules.proofs.Characters.{either}
 use Rattle.syntax.proofs.Only.{Only, equal}
@@ -19,7 +18,7 @@ use Rattle.listings.specs.Contract.{Lists}
 use Rattle.sheets.specs.Contract.{numbers_of}
 use Rattle.listings.specs.declared.listing.Listed.{Listed}
 use Rattle.listings.specs.declared.listing.Listed.TheVariants.{Bytes, NoRoom}
-use Rattle.ffi.specs.Exported.{HandsOut, answer_from, ran_from, fault_told, held_told, Hands, listed_from, not_read}
+use Rattle.ffi.specs.Exported.{HandsOut, answer_from, ran_from, Hands, listed_from, not_read}
 use Rattle.ffi.specs.declared.sheet.Counts.{Counts}
 use Rattle.ffi.proofs.cartglaze_is_display.Reads as is-display
 use Rattle.ffi.proofs.cartglaze_is_inline.Reads as is-inline
@@ -54,23 +53,13 @@ same_answer r s a b c d e =
     let same = sym (told_of r a b) ∙ ap told e ∙ told_of s c d in
     (ap (λ x. x.0) same, (ap (λ x. x.1.0) same, ap (λ x. x.1.1) same))
 
--- what is returned, both numbers and every element of both buffers, of either run
-pub only_run : (ran : Ran) (r s : Bool) (a b c d : ℕ) (v w x y : List ℕ) → ran ≡ ran_from r a b v w → ran ≡ ran_from s c d x y
+-- what is returned, both numbers and every element of both buffers
+pub only_run : (t : Tables) (tree dropped : List ℕ) (r s : Bool) (a b c d : ℕ) (v w x y : List ℕ) → run t tree dropped ≡ ran_from r a b v w
+    → run t tree dropped ≡ ran_from s c d x y
     → ((r ≡ s) × ((a ≡ c) × (b ≡ d))) × ((v ≡ x) × (w ≡ y))
-only_run ran r s a b c d v w x y e f =
+only_run t tree dropped r s a b c d v w x y e f =
     let same = sym e ∙ f in
     (same_answer r s a b c d (ap (λ z. z.answer) same), (ap (λ z. z.tree) same, ap (λ z. z.dropped) same))
-
--- ---- lists of names
-
--- what is returned, and the place
-pub only_check_lists : (fault : Option ℕ) {r s : Bool} {a b : ℕ} → (r, a) ≡ fault_told fault → (s, b) ≡ fault_told fault → (r ≡ s) × (a ≡ b)
-only_check_lists fault one other = let same = one ∙ sym other in (ap (λ x. x.0) same, ap (λ x. x.1) same)
-
--- what is returned, and both numbers
-pub only_lookup : (held : Held) {r s : Bool} {a b c d : ℕ} → (r, (a, b)) ≡ held_told held → (s, (c, d)) ≡ held_told held
-    → (r ≡ s) × ((a ≡ c) × (b ≡ d))
-only_lookup held one other = let same = one ∙ sym other in (ap (λ x. x.0) same, (ap (λ x. x.1.0) same, ap (λ x. x.1.1) same))
 
 -- ---- the questions
 pub questions :

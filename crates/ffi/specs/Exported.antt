@@ -1,8 +1,7 @@
--- What goes over C in numbers: what a text comes to, a run's answer, what lists of names come to, what a sheet comes to, and what a listing comes to.
+-- What goes over C in numbers: what a text comes to, the run's answer, what a sheet comes to, and what a listing comes to.
 use Rattle.std.specs.Prelude.{ℕ, ◌-◌, ◌^◌, min, Bool, true, false, List, ◌≡◌, length}
-use Rattle.std.proofs.Math.Option.{Option, none, some}
+use Rattle.std.proofs.Math.Option.{Option}
 use Rattle.rules.specs.Checks.{Tables}
-use Rattle.rules.specs.Names.{Held, in_house, in_default}
 use Rattle.rules.specs.Run.{Answer, accepted, refused_at, Ran}
 use Rattle.rules.specs.Tokeniser as tokeniser
 use Rattle.sheets.specs.Contract.{answer_for, numbers_after}
@@ -38,18 +37,6 @@ answer_from false number place = refused_at number place
 -- with both lent buffers after it
 abbrev pub ran_from : Bool → ℕ → ℕ → List ℕ → List ℕ → Ran
 ran_from is first second tree dropped = record { answer = answer_from is first second; tree = tree; dropped = dropped }
-
--- ---- lists of names
-
--- no fault and 0, or a fault and its place
-abbrev pub fault_told : Option ℕ → Bool × ℕ
-fault_told none = (true, 0)
-fault_told (some place) = (false, place)
-
--- whether the house list holds the part, where it begins there, and how many bytes it has
-abbrev pub held_told : Held → Bool × (ℕ × ℕ)
-held_told (in_house range) = told true range.start range.size
-held_told (in_default range) = told false range.start range.size
 
 -- ---- a sheet
 

@@ -1,20 +1,51 @@
 // The public face for C and Rust: numbers and slices alone. A slice is a pointer and a length there; `include/cartglaze.h` has the same functions.
 mod listing;
-mod lists;
 mod number;
-mod runs;
 mod sheet;
 mod tokens;
 
 ghost use Rattle.std.specs.Prelude.{◌≡◌};
 ghost use Rattle.rules.specs.Questions.{is_display, is_inline, is_valid, is_whole, is_leaf, leaf_range};
+ghost use Rattle.rules.specs.Run.{run as run_of};
+ghost use Rattle.parser.specs.Member.{tables};
+ghost use Rattle.ffi.specs.Exported.{ran_from};
 
-use cartglaze::{is_display, is_inline, is_leaf, is_valid, is_whole, leaf_range};
+use crate::number::wide;
+use cartglaze::{Answer, is_display, is_inline, is_leaf, is_valid, is_whole, leaf_range, run};
 pub use listing::cartglaze_list;
-pub use lists::{cartglaze_check_lists, cartglaze_lookup};
-pub use runs::{cartglaze_run, cartglaze_run_by_names};
 pub use sheet::cartglaze_read;
 pub use tokens::cartglaze_tokenise;
+
+// Whether the run is accepted. Accepted: the counts of tree rows and of dropped rows; refused: the number and the place.
+#[unsafe(no_mangle)]
+pub extern "C" fn cartglaze_run(
+    text: &[u8],
+    tokens: &[u32],
+    shapes: &[u32],
+    states: &[u32],
+    tree: &mut [u32],
+    dropped: &mut [u32],
+    first: &mut usize,
+    second: &mut usize,
+) -> bool
+    ensures { let t = tables text.now tokens.now shapes.now states.now in
+        let ran = ran_from result first.new second.new tree.new dropped.new in
+        run_of t tree.old dropped.old ≡ ran }
+{
+    let answer = run(text, tokens, shapes, states, tree, dropped);
+    match answer {
+        Answer::Accepted(rows, dropped_rows) => {
+            *first = rows;
+            *second = dropped_rows;
+            true
+        }
+        Answer::Refused(number, place) => {
+            *first = wide(number);
+            *second = place;
+            false
+        }
+    }
+}
 
 // Whether the row is a display formula.
 #[unsafe(no_mangle)]

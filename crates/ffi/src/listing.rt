@@ -1,4 +1,4 @@
-// A listing for C and Rust: the answer comes in as a run handed it out.
+// A listing for C and Rust: the answer comes in as `cartglaze_run` handed it out.
 ghost use Rattle.std.specs.Prelude.{◌≡◌, min};
 ghost use Rattle.rules.specs.Listing.{listing};
 ghost use Rattle.listings.specs.Contract.{Lists};

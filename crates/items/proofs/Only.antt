@@ -52,7 +52,7 @@ shapes = (stands shape_for shape (λ s. refl), stands shape_for shape (λ s. ref
 
 -- its contract is for every text and every states, so for none
 pub only_of_token : Only of-token.Post
-only_of_token = record { same = λ κs a x y e p q. fixed shape_for shape (λ s. refl) x y (p.is [] [] ∙ sym (q.is [] [])) }
+only_of_token = record { same = λ κs a x y e p q. fixed shape_for shape (λ s. refl) x y (p [] [] ∙ sym (q [] [])) }
 
 pub only_matcher : Only matcher-of.Post
 only_matcher = stands matcher_of matcher from_matcher

@@ -1,11 +1,8 @@
 -- How items, shapes and choices of the code stand for the rules', case by case.
-use Rattle.std.specs.Prelude.{ℕ, List, ◌≡◌}
 use Rattle.rules.specs.Items as rules
 use Rattle.rules.specs.Position as position
 use Rattle.arg_match.specs.Answers.{matcher_of}
-use Rattle.syntax.specs.Input.{together, shape_in}
 use Rattle.syntax.specs.ParseScope.{scope_of}
-use Rattle.syntax.specs.declared.settings.Settings.{Settings}
 use Rattle.items.specs.declared.choice.Choice.{Choice}
 use Rattle.items.specs.declared.choice.Choice.TheVariants as choice
 use Rattle.items.specs.declared.choice.Piece.{Piece}
@@ -39,7 +36,3 @@ abbrev pub choice_for : Choice → rules.Choice
 choice_for choice.Ends = rules.ends
 choice_for choice.Holds = rules.holds
 choice_for (choice.Takes piece next) = rules.takes (piece_for piece) (matcher_of next)
-
--- what is told of a token's shape, whatever the text and the states are
-pub record ShapeOfToken (settings : Settings) (tokens shapes : List ℕ) (token : ℕ) (shape : Shape) : Type 0 where
-  pub is : (text states : List ℕ) → shape_for shape ≡ shape_in (together text tokens shapes states settings) token

@@ -1,17 +1,16 @@
 // What the shape of a command or an environment asks for.
-ghost use Rattle.std.specs.Prelude.{◌≡◌, ◌+◌, ◌*◌, ◌≤◌, ◌<◌, length};
-ghost use Rattle.rules.specs.Checks.{shape_row};
+ghost use Rattle.std.specs.Prelude.{◌≡◌, List, ℕ, ◌+◌, ◌*◌, ◌/◌, ◌≤◌, ◌<◌, length};
+ghost use Rattle.rules.specs.Checks.{shape_of, shape_row};
 ghost use Rattle.rules.specs.Items.{attachable_command, name_only, no_shape, of_class};
 ghost use Rattle.rules.specs.Limits.{shape_width};
 ghost use Rattle.rules.specs.Matcher.{start_match};
-ghost use Rattle.rules.specs.Tables.{token_count};
-ghost use Rattle.syntax.specs.Input.{Shaped};
+ghost use Rattle.rules.specs.Tables.{shape_at, token_count};
 ghost use Rattle.arg_match.specs.Answers.{matcher_of};
-ghost use Rattle.items.specs.Items.{shape_for, ShapeOfToken};
+ghost use Rattle.items.specs.Items.{shape_for};
 
 use arg_match::ArgMatcher;
 use lexer::{Column, cell};
-use syntax::{Form, Limits, Settings};
+use syntax::{Form, Limits};
 
 #[derive(Drop)]
 pub struct Shape {
@@ -45,14 +44,12 @@ impl Shape {
         }
     }
 
-    // The shape of a token: the row of its own number where names were looked up before; else shape number 0 is none, k the k-th row.
-    pub fn of_token(tokens: &[u32], shapes: &[u32], token: usize, settings: Settings) -> Self
-        requires { (token < token_count tokens.now) × Shaped settings tokens.now shapes.now token }
-        ensures { ShapeOfToken settings tokens.now shapes.now token result }
+    // The shape of a token: shape number 0 is none, k the k-th row.
+    pub fn of_token(tokens: &[u32], shapes: &[u32], token: usize) -> Self
+        requires { (token < token_count tokens.now) × (shape_at tokens.now token ≤ length shapes.now / shape_width) }
+        ensures { (text states : List ℕ)
+            → shape_for result ≡ shape_of (record { text = text; tokens = tokens.now; shapes = shapes.now; states = states }) token }
     {
-        if settings.named {
-            return Self::row(shapes, token);
-        }
         let number = cell(tokens, token, Column::SHAPE) as usize;
         if number == 0 {
             return Self::none();

@@ -7,7 +7,7 @@ use native.Mathlib.Omega.{arith}
 use lib.ListN.{length}
 use Rattle.rules.specs.Builder.{Leaf}
 use Rattle.rules.specs.Characters.{char_length}
-use Rattle.syntax.specs.Input.{Input, source_of}
+use Rattle.rules.specs.Checks.{Tables, source_of}
 use Rattle.rules.specs.Cursor.{Cursor, peek_text, rest_start, consumed}
 use Rattle.rules.specs.Flat.{Built, Frame, flat}
 use Rattle.rules.specs.Items.{Piece, character}
@@ -128,7 +128,7 @@ module _ (n : ℕ) (s : Source) (inner : Bool → Rule (flat n)) where
 
 -- ---- the same of the code's state
 
-module _ {t : Input} {gain : ℕ} (what : Piece) {q : Parser} {v : Buffers} {r : Step} {x : Buffers} {z : Parser}
+module _ {t : Tables} {gain : ℕ} (what : Piece) {q : Parser} {v : Buffers} {r : Step} {x : Buffers} {z : Parser}
     (read : Runs t gain (λ n d. spec.argument (flat n) (source_of t) (inner_at t n d) what (pos_of q v)) q v r x) (e : r ≡ Went z) where
   -- what is so of every position that the rule goes to is so of the one that it went to
   pub told : (P : Here → Type 0) → ((n d : ℕ) → Always P (spec.argument (flat n) (source_of t) (inner_at t n d) what (pos_of q v))) → P (pos_of z x)
@@ -143,7 +143,7 @@ module _ {t : Input} {gain : ℕ} (what : Piece) {q : Parser} {v : Buffers} {r :
       let dropped = ready.steady.dropped in
       record { held = omega arith; dropped = omega arith }
 
-module _ {t : Input} {gain : ℕ} {q : Parser} {v : Buffers} {r : Step} {x : Buffers} {z : Parser}
+module _ {t : Tables} {gain : ℕ} {q : Parser} {v : Buffers} {r : Step} {x : Buffers} {z : Parser}
     (read : Runs t gain (λ n d. spec.argument (flat n) (source_of t) (inner_at t n d) character (pos_of q v)) q v r x) (e : r ≡ Went z) where
   abbrev behind_it : Cursor
   behind_it = consumed t.tokens (char_length (peek_text t.text t.tokens (cursor_of q.lexer))) (cursor_of q.lexer)

@@ -5,7 +5,7 @@ use mathlib.Core.List.{List, [], ◌∷◌}
 use mathlib.Core.Option.{none, some}
 use Prim.Native.Nat.{ℕ, zero, suc, ◌+◌, ◌≤◌, ◌<◌}
 use native.Mathlib.Omega.{arith}
-use Rattle.syntax.specs.Input.{Input, source_of}
+use Rattle.rules.specs.Checks.{Tables, source_of}
 use Rattle.rules.specs.Cursor.{peek}
 use Rattle.rules.specs.Flat.{flat}
 use Rattle.rules.specs.Items.{Piece, Choice, ends, holds, takes, choose}
@@ -28,7 +28,7 @@ use Rattle.parser.specs.Member.{Next, inner_at, all_arguments}
 use Rattle.parser.proofs.Cycle.{runs}
 use Rattle.parser.proofs.AfterArgument.{holding_behind}
 
-module _ (t : Input) (p : Parser) (first : Matcher) (b : Buffers) where
+module _ (t : Tables) (p : Parser) (first : Matcher) (b : Buffers) where
   -- what is left of the loop, with so many turns and a matcher
   abbrev more : ℕ → Matcher → Rule
   more fuel m n d = spec.arguments (flat n) (source_of t) (inner_at t n d) fuel m

@@ -6,7 +6,7 @@ use native.Mathlib.Omega.{arith}
 use lib.ListN.{length, drop}
 use Rattle.rules.specs.Limits.{nodes}
 use Rattle.rules.specs.Outcome.{Out, went}
-use Rattle.syntax.specs.Input.{Input, source_of}
+use Rattle.rules.specs.Checks.{Tables, source_of}
 use Rattle.state.specs.Stands.{Buffers, Here, pos_of, out_of}
 use Rattle.state.specs.Change.{relisted, remarked, unheld}
 use Rattle.state.specs.Contract.{MarkOk, Ready, Left, Gone, Runs, Ran, RuleOf, weight, buffers}
@@ -22,12 +22,12 @@ use Rattle.state.proofs.Walk.{Rule, line, Walk, Call, passing, stays_home, weake
 -- ---- calls
 
 -- a member at the caller's level
-pub runs : {t : Input} {gain lift : ℕ} {f : Rule} {u : Parser} {v : Buffers} {r : Step} {x : Buffers}
+pub runs : {t : Tables} {gain lift : ℕ} {f : Rule} {u : Parser} {v : Buffers} {r : Step} {x : Buffers}
     → Runs t gain (λ n d. f n d (pos_of u v)) u v r x → Call t f lift (λ q. Left t gain u v q x) u v r x
 runs k = record { is = λ ready d h. k.is d (omega arith); gone = λ ready. k.gone }
 
 -- a member that reads items in a node that the caller opened: a level less
-pub below : {t : Input} {gain lift : ℕ} {f : Rule} {u : Parser} {v : Buffers} {r : Step} {x : Buffers} → u.builder.depth ≤ nodes
+pub below : {t : Tables} {gain lift : ℕ} {f : Rule} {u : Parser} {v : Buffers} {r : Step} {x : Buffers} → u.builder.depth ≤ nodes
     → Runs t gain (λ n d. f n (suc d) (pos_of u v)) u v r x → Call t f (suc lift) (λ q. Left t gain u v q x) u v r x
 below {lift = lift} {f} {u} {v} {r} {x} deep k = record { is = λ ready d h. one_less d h; gone = λ ready. k.gone }
   where
@@ -36,12 +36,12 @@ below {lift = lift} {f} {u} {v} {r} {x} deep k = record { is = λ ready d h. one
     one_less (suc e) h = k.is e (omega arith)
 
 -- how a call ended: so many steps of a member's plan are done if it went
-abbrev pub TurnedBy : Input → Rule → List Rule → Parser → Buffers → ℕ → ℕ → ℕ → Step → List ℕ → List ℕ → Type 0
+abbrev pub TurnedBy : Tables → Rule → List Rule → Parser → Buffers → ℕ → ℕ → ℕ → Step → List ℕ → List ℕ → Type 0
 TurnedBy t rule plan p m count gain lift r tree dropped = Turn t rule (drop count plan) gain lift p.list.scope p m r (buffers tree dropped)
 
 -- ---- steps that call nothing
 
-module _ {t : Input} {rule f : Rule} {rest : List Rule} {gain lift : ℕ} {scope : ℕ} {s : Parser} {m : Buffers} {u : Parser} {v : Buffers}
+module _ {t : Tables} {rule f : Rule} {rest : List Rule} {gain lift : ℕ} {scope : ℕ} {s : Parser} {m : Buffers} {u : Parser} {v : Buffers}
     (w : Walk t rule (f ∷ rest) gain lift scope s m u v) where
   -- the rule's step goes to z
   abbrev Goes : Parser → Type 0
@@ -89,22 +89,22 @@ module _ {t : Input} {rule f : Rule} {rest : List Rule} {gain lift : ℕ} {scope
 -- ---- a member that hands on to one routine alone
 
 -- the same by another rule that comes to the same
-pub runs_as : {t : Input} {gain : ℕ} {want other : ℕ → ℕ → Out Here} {p : Parser} {m : Buffers} {r : Step} {v : Buffers}
+pub runs_as : {t : Tables} {gain : ℕ} {want other : ℕ → ℕ → Out Here} {p : Parser} {m : Buffers} {r : Step} {v : Buffers}
     → Runs t gain want p m r v → ((n d : ℕ) → other n d ≡ want n d) → Runs t gain other p m r v
 runs_as {m = m} k same = record { is = λ d h. same (length m.tree) d ∙ k.is d h; gone = k.gone }
 
 -- a routine outside the cycle
-pub ran-runs : {t : Input} {sees : Input → Type 0} {gain : ℕ} {rule : RuleOf} {p : Parser} {m : Buffers} {r : Step} {v : Buffers}
+pub ran-runs : {t : Tables} {sees : Tables → Type 0} {gain : ℕ} {rule : RuleOf} {p : Parser} {m : Buffers} {r : Step} {v : Buffers}
     → sees t → Ready t p m → Ran sees gain rule p m r v → Runs t gain (λ n d. rule (source_of t) n (pos_of p m)) p m r v
 ran-runs {t} seen ready k = record { is = λ d h. (k.told t seen ready).is; gone = (k.told t seen ready).gone }
 
 -- a member that opens a node, called where another level is left
-pub above : {t : Input} {gain : ℕ} {want : ℕ → ℕ → Out Here} {p : Parser} {m : Buffers} {r : Step} {v : Buffers}
+pub above : {t : Tables} {gain : ℕ} {want : ℕ → ℕ → Out Here} {p : Parser} {m : Buffers} {r : Step} {v : Buffers}
     → Runs t gain want p m r v → Runs t gain (λ n d. want n (suc d)) p m r v
 above k = record { is = λ d h. k.is (suc d) (omega arith); gone = k.gone }
 
 -- a member that promises less of what it reads than its callee
-gone_less : (t : Input) (gain less : ℕ) (p : Parser) (m v : Buffers) → less ≤ gain → (r : Step)
+gone_less : (t : Tables) (gain less : ℕ) (p : Parser) (m v : Buffers) → less ≤ gain → (r : Step)
     → Gone (λ q. Left t gain p m q v) r → Gone (λ q. Left t less p m q v) r
 gone_less t gain less p m v h (Went q) k =
     record {
@@ -117,6 +117,6 @@ gone_less t gain less p m v h (Went q) k =
     }
 gone_less t gain less p m v h (Refused number place) k = tt
 
-pub read-less : {t : Input} {gain less : ℕ} {want : ℕ → ℕ → Out Here} {p : Parser} {m : Buffers} {r : Step} {v : Buffers}
+pub read-less : {t : Tables} {gain less : ℕ} {want : ℕ → ℕ → Out Here} {p : Parser} {m : Buffers} {r : Step} {v : Buffers}
     → less ≤ gain → Runs t gain want p m r v → Runs t less want p m r v
 read-less {t} {gain} {less} {p = p} {m} {r} {v} h k = record { is = k.is; gone = gone_less t gain less p m v h r k.gone }

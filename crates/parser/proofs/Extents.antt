@@ -5,7 +5,7 @@ use mathlib.Core.Bool.{Bool, true, false}
 use mathlib.Core.List.{[], ◌∷◌}
 use mathlib.Core.Option.{none, some}
 use Prim.Native.Nat.{ℕ}
-use Rattle.syntax.specs.Input.{Input, source_of}
+use Rattle.rules.specs.Checks.{Tables, source_of}
 use Rattle.rules.specs.Flat.{flat}
 use Rattle.rules.specs.Outcome.{went}
 use Rattle.rules.specs.Position.{steps, with_list, with_marks}
@@ -33,12 +33,12 @@ use Rattle.parser.proofs.Marks.{mark_here_lem, is_mark}
 -- ---- a list of its own
 
 -- the same scope by another name
-rescoped : {t : Input} {rule : Rule} {p : Parser} {m : Buffers} {q : Parser} {x : Buffers} {scope other : ℕ}
+rescoped : {t : Tables} {rule : Rule} {p : Parser} {m : Buffers} {q : Parser} {x : Buffers} {scope other : ℕ}
     → scope ≡ other → Walk t rule [] 0 0 scope p m q x → Walk t rule [] 0 0 other p m q x
 rescoped same w = rw (← same) w
 
 -- a rule of three steps: a list is taken, its items are read, another list is given back
-record Own (t : Input) (greedy : Bool) (p : Parser) (m : Buffers) (rule : Rule) : Type 0 where
+record Own (t : Tables) (greedy : Bool) (p : Parser) (m : Buffers) (rule : Rule) : Type 0 where
   list : ListState
   start : MarkOk list.start p.builder
   last : MarkOk list.last p.builder
@@ -47,7 +47,7 @@ record Own (t : Input) (greedy : Bool) (p : Parser) (m : Buffers) (rule : Rule) 
   is : (n d : ℕ) → rule n d (pos_of p m) ≡ line (taking ∷ body t greedy ∷ giving ∷ []) n d (pos_of p m)
   taking_is : (n d : ℕ) → taking n d (pos_of p m) ≡ went (pos_of (relisted p list) m)
 
-module _ {t : Input} {greedy : Bool} {p : Parser} {m : Buffers} {rule : Rule} (ready : Ready t p m) (own : Own t greedy p m rule) where
+module _ {t : Tables} {greedy : Bool} {p : Parser} {m : Buffers} {rule : Rule} (ready : Ready t p m) (own : Own t greedy p m rule) where
   taken : Walk t rule (body t greedy ∷ own.giving ∷ []) 0 0 own.list.scope p m (relisted p own.list) m
   taken = relists (begins ready own.is) own.list refl own.start own.last own.taking_is
 
@@ -80,7 +80,7 @@ opened-depth (Scoped scope) p = refl
 opened-depth Greedy p = refl
 opened-depth OneItem p = refl
 
-module _ {t : Input} {p : Parser} {m : Buffers} (ready : Ready t p m) where
+module _ {t : Tables} {p : Parser} {m : Buffers} (ready : Ready t p m) where
   -- a list of a scope
   abbrev list-rule : ParseScope → Rule
   list-rule scope n d = spec.item_list (flat n) (source_of t) (spec.content (flat n) (source_of t) (inner_at t n d)) (scope_of scope)

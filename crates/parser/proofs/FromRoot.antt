@@ -4,7 +4,7 @@ use mathlib.Core.List.{List, [], ◌∷◌}
 use Prim.Native.Nat.{ℕ, ◌+◌, ◌≤◌}
 use native.Mathlib.Omega.{arith}
 use lib.ListN.{length}
-use Rattle.syntax.specs.Input.{Input, source_of}
+use Rattle.rules.specs.Checks.{Tables, source_of}
 use Rattle.rules.specs.Cursor.{left}
 use Rattle.rules.specs.Flat.{flat, empty}
 use Rattle.rules.specs.Limits.{nodes}
@@ -26,19 +26,19 @@ use Rattle.state.proofs.Marks.{no_mark_lem}
 use Rattle.parser.specs.Root.{at_root, Readable, Written, Parsed}
 
 -- the rule, as its steps
-abbrev pub plan : Input → List Rule
+abbrev pub plan : Tables → List Rule
 plan t =
     (λ n d. position.start (flat n) kinds.ScopeRoot)
     ∷ (λ n d. spec.item_list (flat n) (source_of t) (inner_at t n d) scopes.Root)
     ∷ (λ n d. position.finish (flat n) kinds.ScopeRoot (record { first = 0; node = 0 }))
     ∷ []
 
-plan_is : (t : Input) (m : Buffers) (n : ℕ) → spec.parse (flat n) (source_of t) empty ≡ line (plan t) n nodes (pos_of at_root m)
+plan_is : (t : Tables) (m : Buffers) (n : ℕ) → spec.parse (flat n) (source_of t) empty ≡ line (plan t) n nodes (pos_of at_root m)
 unfolding spec.parse steps line
 plan_is t m n = refl
 
 -- where reading begins
-pub root-steady : {t : Input} {m : Buffers} → Readable t m.dropped → Steady t at_root m
+pub root-steady : {t : Tables} {m : Buffers} → Readable t m.dropped → Steady t at_root m
 unfolding left
 root-steady readable =
     let good = readable.good in
@@ -56,7 +56,7 @@ root-steady readable =
     }
 
 -- the root was opened
-pub roots : {t : Input} {f : ℕ → Here → Out Here} {rest : List Rule} {s : Parser} {m : Buffers} {r : Step} {x : Buffers} {z : Parser}
+pub roots : {t : Tables} {f : ℕ → Here → Out Here} {rest : List Rule} {s : Parser} {m : Buffers} {r : Step} {x : Buffers} {z : Parser}
     → Steady t s m → Opens f s m r x → r ≡ Went z → Walk t (line ((λ n d. f n) ∷ rest)) rest 0 1 s.list.scope s m z x
 unfolding line
 roots {t} {f} {rest} {s} {m} {r} {x} {z} steady k e =
@@ -75,14 +75,14 @@ roots {t} {f} {rest} {s} {m} {r} {x} {z} steady k e =
     }
 
 -- the last step, whatever it comes to
-last_is : {t : Input} {rule f : Rule} {gain : ℕ} {scope : ℕ} {s : Parser} {m : Buffers} {u : Parser} {v : Buffers} {Q : Parser → Type 0}
+last_is : {t : Tables} {rule f : Rule} {gain : ℕ} {scope : ℕ} {s : Parser} {m : Buffers} {u : Parser} {v : Buffers} {Q : Parser → Type 0}
     {x : Buffers} (r : Step) → Walk t rule (f ∷ []) gain 1 scope s m u v → Call t f 1 Q u v r x
     → (d : ℕ) → nodes ≤ s.builder.depth + d → rule (length m.tree) d (pos_of s m) ≡ out_of r x
 unfolding line
 last_is (Went q) w k d h = steps_on w k refl d h
 last_is {x = x} (Refused number place) w k d h = stops-is w k ((number, (place, tt)), refl) x d h
 
-module _ {t : Input} {m : Buffers} {r : Step} {x : Buffers} where
+module _ {t : Tables} {m : Buffers} {r : Step} {x : Buffers} where
   -- the root was not opened
   pub root-refused : {v : Buffers} → Steady t at_root m → Opens (λ n. position.start (flat n) kinds.ScopeRoot) at_root m r v → Stopped r
       → Parsed t m r x

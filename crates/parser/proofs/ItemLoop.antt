@@ -6,7 +6,7 @@ use mathlib.Core.List.{[], ◌∷◌}
 use mathlib.Core.Logic.{◌⊎◌, ⊎_elim}
 use Prim.Native.Nat.{ℕ, zero, suc, ◌≤◌, ◌<◌}
 use native.Mathlib.Omega.{arith}
-use Rattle.syntax.specs.Input.{Input, source_of}
+use Rattle.rules.specs.Checks.{Tables, source_of}
 use Rattle.rules.specs.Cursor.{peek}
 use Rattle.rules.specs.Flat.{flat}
 use Rattle.rules.specs.Outcome.{Out, went, refused, bind}
@@ -42,14 +42,14 @@ three_steps f change h n d q = then_last (f n d q)
     then_last (refused number place) = refl
 
 -- an item in the node that is open
-abbrev item : Input → Rule
+abbrev item : Tables → Rule
 item t n d = spec.content (flat n) (source_of t) (inner_at t n d) false
 
 -- all items of a list
-abbrev pub body : Input → Bool → Rule
+abbrev pub body : Tables → Bool → Rule
 body t greedy n d = list_items t greedy n (spec.content (flat n) (source_of t) (inner_at t n d))
 
-module _ (t : Input) (greedy : Bool) (p : Parser) (m : Buffers) where
+module _ (t : Tables) (greedy : Bool) (p : Parser) (m : Buffers) where
   -- what is left of the loop, with so many turns
   abbrev more : ℕ → Rule
   more fuel n d =
@@ -115,7 +115,7 @@ module _ (t : Input) (greedy : Bool) (p : Parser) (m : Buffers) where
           passed_item : Left t 1 q v z x
           passed_item = leaves turn.walk (runs read) e
 
-          module _ {y : Parser} (l : LastAfter t.tokens t.shapes t.settings q z y) where
+          module _ {y : Parser} (l : LastAfter t.tokens t.shapes q z y) where
             -- a mark before the item is still inside
             mark_kept : (y.list.last ≡ z.list.last) ⊎ (y.list.last ≡ mark_here q) → MarkOk y.list.last z.builder
             mark_kept =
@@ -124,7 +124,7 @@ module _ (t : Input) (greedy : Bool) (p : Parser) (m : Buffers) where
                 (λ moved. rw moved (mark_more (mark_here q) q.builder z.builder passed_item.passed.rows (mark_here_lem far.walk.ready)))
 
             changed : (n d : ℕ) → went (attaches n (pos_of z x)) ≡ went (pos_of (remarked z z.list.start y.list.last) x)
-            changed n d = rw (← l.same) (ap went (l.is t refl refl refl n v x))
+            changed n d = rw (← l.same) (ap went (l.is t refl refl n v x))
 
             items-go_on : Far y x
             items-go_on =
@@ -150,7 +150,7 @@ module _ (t : Input) (greedy : Bool) (p : Parser) (m : Buffers) where
 
 -- ---- one item
 
-module _ (t : Input) (p : Parser) (m : Buffers) where
+module _ (t : Tables) (p : Parser) (m : Buffers) where
   -- before it, and behind it
   abbrev One : Bool → Parser → Buffers → Type 0
   One true q v = (q ≡ p) × (v ≡ m)
@@ -159,10 +159,10 @@ module _ (t : Input) (p : Parser) (m : Buffers) where
 -- ---- as far as an extent goes
 
 -- whether an item is read next
-abbrev pub asks : Input → Parser → Extent → Bool → Bool
+abbrev pub asks : Tables → Parser → Extent → Bool → Bool
 asks t q e first = moreOf e first (scope_at q.list.scope) (peek t.tokens (cursor_of q.lexer))
 
-module _ (t : Input) (p : Parser) (m : Buffers) where
+module _ (t : Tables) (p : Parser) (m : Buffers) where
   abbrev Held : Extent → Bool → Parser → Buffers → Type 0
   Held (Scoped scope) first q v = Far t false p m q v
   Held Greedy first q v = Far t true p m q v
@@ -224,14 +224,14 @@ module _ (t : Input) (p : Parser) (m : Buffers) where
 
       module _ {z : Parser} (y : Parser) (went_on : r ≡ Went z) where
         pub loop_goes_on : (e : Extent) (first : Bool) → Loop e first q v → asks t q e first ≡ true
-            → Behind e t.tokens t.shapes t.settings q z y → Loop e false y x
+            → Behind e t.tokens t.shapes q z y → Loop e false y x
         loop_goes_on (Scoped scope) first l goes b = record { held = items-go_on t false p m l.held goes read went_on b }
         loop_goes_on Greedy first l goes b = record { held = items-go_on t true p m l.held goes read went_on b }
         loop_goes_on OneItem true l goes b = record { held = rw (l.held.0, l.held.1, went_on, ← b) at read }
         loop_goes_on OneItem false l goes b = absurd (false≢true goes)
 
         pub loop_less : (e : Extent) (first : Bool) → Loop e first q v → asks t q e first ≡ true
-            → Behind e t.tokens t.shapes t.settings q z y → left_of t y < left_of t q
+            → Behind e t.tokens t.shapes q z y → left_of t y < left_of t q
         loop_less (Scoped scope) first l goes b = items-less t false p m l.held goes read went_on b
         loop_less Greedy first l goes b = items-less t true p m l.held goes read went_on b
         loop_less OneItem first l goes b = rw b (let passed = (rw went_on at read).gone.passed.read in omega arith)

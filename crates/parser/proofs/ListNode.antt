@@ -1,7 +1,7 @@
 -- The node around a list of items, as a group, an environment and a left-right body have it. Assumes nothing.
 use Prim.Native.Nat.{ℕ}
 use mathlib.Core.List.{List, [], ◌∷◌}
-use Rattle.syntax.specs.Input.{Input, source_of}
+use Rattle.rules.specs.Checks.{Tables, source_of}
 use Rattle.rules.specs.Flat.{flat}
 use Rattle.rules.specs.Position as position
 use Rattle.rules.specs.Reading.{item_list}
@@ -11,7 +11,7 @@ use Rattle.state.proofs.Walk.{Rule}
 use Rattle.parser.specs.Member.{inner_at}
 
 -- its rule's steps from p on: what opens the list is read, the list, and what closes it
-abbrev pub list_node : Input → Parser → ℕ → Rule → Scope → Rule → List Rule
+abbrev pub list_node : Tables → Parser → ℕ → Rule → Scope → Rule → List Rule
 list_node t p kind opener scope closer =
     (λ n d. position.start (flat n) kind)
     ∷ opener

@@ -7,60 +7,52 @@ use Prim.Native.Nat.{ℕ, ◌<◌}
 use borrow.Author.Tests.{ne_eqb}
 use lib.Dec.{eqb}
 use native.Mathlib.Omega.{arith}
-use Rattle.syntax.specs.Input.{Input, together, shape_in as shape_of}
-use Rattle.syntax.specs.declared.settings.Settings.{Settings}
+use Rattle.rules.specs.Checks.{Tables, shape_of}
 use Rattle.rules.specs.Items.{attachable}
 use Rattle.rules.specs.Tables.{kind_at}
-use Rattle.items.specs.Items.{shape_for, ShapeOfToken}
+use Rattle.items.specs.Items.{shape_for}
 use Rattle.items.specs.declared.shape.Shape.{Shape}
 use Rattle.state.specs.Change.{remarked}
 use Rattle.state.specs.Contract.{MarkOk, Ready}
 use Rattle.state.specs.Stands.{Buffers}
 use Rattle.state.specs.declared.KeptMark.{KeptMark}
 use Rattle.state.specs.declared.Parser.{Parser}
-use Rattle.parser.specs.Member.{LastAfter, mark_here}
+use Rattle.parser.specs.Member.{LastAfter, mark_here, tables}
 
 -- a mark that is made here
-pub mark_here_lem : {t : Input} {p : Parser} {m : Buffers} → Ready t p m → MarkOk (mark_here p) p.builder
+pub mark_here_lem : {t : Tables} {p : Parser} {m : Buffers} → Ready t p m → MarkOk (mark_here p) p.builder
 mark_here_lem ready = let children = ready.steady.fits.children in record { children = omega arith; row = omega arith }
 
 -- it is one where a row was written before it, so where a node is open
 there : (p : Parser) → 0 < p.builder.rows → eqb (mark_here p).row 0 ≡ false
 there p written = ne_eqb p.builder.rows 0 (λ e. omega arith)
 
-pub is_mark : {t : Input} {p : Parser} {m : Buffers} → Ready t p m → eqb (mark_here p).row 0 ≡ false
+pub is_mark : {t : Tables} {p : Parser} {m : Buffers} → Ready t p m → eqb (mark_here p).row 0 ≡ false
 is_mark {p = p} ready = let node = ready.within.node in there p (omega arith)
 
 -- attachable, asked of a kind and the code's shape
 abbrev pub attached : ℕ → Shape → Bool
 attached kind shape = attachable kind (shape_for shape)
 
-module _ {tokens shapes : List ℕ} {settings : Settings} {shape : Shape} (p q : Parser)
-    (Shape-is : ShapeOfToken settings tokens shapes p.lexer.token shape) where
+module _ {tokens shapes : List ℕ} {shape : Shape} (p q : Parser)
+    (Shape-is : (text states : List ℕ) → shape_for shape ≡ shape_of (tables text tokens shapes states) p.lexer.token) where
   -- the rule's question has the code's answer
-  asks : (t : Input) → t.tokens ≡ tokens → t.shapes ≡ shapes → t.settings ≡ settings → (b : Bool)
-      → attached (kind_at tokens p.lexer.token) shape ≡ b
+  asks : (t : Tables) → t.tokens ≡ tokens → t.shapes ≡ shapes → (b : Bool) → attached (kind_at tokens p.lexer.token) shape ≡ b
       → attachable (kind_at t.tokens p.lexer.token) (shape_of t p.lexer.token) ≡ b
-  asks t seen-tokens seen-shapes seen-settings b e =
+  asks t seen-tokens seen-shapes b e =
       let token = p.lexer.token in
-      let same : shape_of t token ≡ shape_of (together t.text tokens shapes t.states settings) token =
-      rw (← seen-tokens, ← seen-shapes, ← seen-settings) refl in
-      rw (same, ← Shape-is.is t.text t.states, seen-tokens) e
+      let same : shape_of t token ≡ shape_of (tables t.text tokens shapes t.states) token = rw (← seen-tokens, ← seen-shapes) refl in
+      rw (same, ← Shape-is t.text t.states, seen-tokens) e
 
   pub last_moved : {mark : KeptMark} {r : Parser} → attached (kind_at tokens p.lexer.token) shape ≡ true → 0 < p.builder.rows
-      → mark ≡ mark_here p → r ≡ remarked q q.list.start mark → LastAfter tokens shapes settings p q r
+      → mark ≡ mark_here p → r ≡ remarked q q.list.start mark → LastAfter tokens shapes p q r
   last_moved said written mark-is r-is =
       rw (r-is, mark-is)
       (record {
-        is = λ t seen-tokens seen-shapes seen-settings n m v. rw (asks t seen-tokens seen-shapes seen-settings true said, there p written);
+        is = λ t seen-tokens seen-shapes n m v. rw (asks t seen-tokens seen-shapes true said, there p written);
         last = inr refl;
         same = refl;
       })
 
-  pub last_kept : attached (kind_at tokens p.lexer.token) shape ≡ false → LastAfter tokens shapes settings p q q
-  last_kept said =
-      record {
-        is = λ t seen-tokens seen-shapes seen-settings n m v. rw (asks t seen-tokens seen-shapes seen-settings false said);
-        last = inl refl;
-        same = refl;
-      }
+  pub last_kept : attached (kind_at tokens p.lexer.token) shape ≡ false → LastAfter tokens shapes p q q
+  last_kept said = record { is = λ t seen-tokens seen-shapes n m v. rw (asks t seen-tokens seen-shapes false said); last = inl refl; same = refl }

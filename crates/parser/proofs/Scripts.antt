@@ -6,7 +6,7 @@ use mathlib.Core.List.{List, [], ◌∷◌}
 use mathlib.Core.Option.{Option, none, some}
 use Prim.Native.Nat.{ℕ, zero, suc, ◌<◌}
 use borrow.Author.Tests.{eqb-true}
-use Rattle.syntax.specs.Input.{Input, source_of}
+use Rattle.rules.specs.Checks.{Tables, source_of}
 use Rattle.rules.specs.Cursor.{Cursor, peek}
 use Rattle.rules.specs.Flat.{flat}
 use Rattle.rules.specs.Items.{Item, plain, error, word, comma, group, attachment, command, environment, left_right, skipped, item_of}
@@ -69,7 +69,7 @@ other_item kind e =
 
 -- ---- what is read
 
-module _ (n : ℕ) (t : Input) (p : position.At (flat n)) where
+module _ (n : ℕ) (t : Tables) (p : position.At (flat n)) where
   -- a Word is next, or something else
   abbrev WordNext : Bool → Type 0
   WordNext is = asked is_word (peek t.tokens p.lexer) ≡ is

@@ -2,7 +2,7 @@
 use Prim.Native.Nat.{ℕ}
 use mathlib.Core.Path.{◌≡◌, sym, ap, ◌∙◌}
 use mathlib.Core.Bool.{Bool}
-use Rattle.syntax.specs.Input.{Input, shape_in as shape_of}
+use Rattle.rules.specs.Checks.{Tables, shape_of}
 use Rattle.rules.specs.Items.{of_class}
 use Rattle.rules.specs.Matcher.{Matcher, is_greedy, start_match}
 use Rattle.rules.specs.Position as position
@@ -10,7 +10,7 @@ use Rattle.items.specs.declared.shape.Shape.{Shape}
 use Rattle.state.specs.declared.Parser.{Parser}
 
 -- the shape of the next token, where one of this class is asked for: the rules' `shape_here` at the state's place
-abbrev pub shape_in : Input → ℕ → Parser → position.Shape
+abbrev pub shape_in : Tables → ℕ → Parser → position.Shape
 shape_in t class p = of_class class (shape_of t p.lexer.token)
 
 -- the code asked its own matcher whether it is greedy

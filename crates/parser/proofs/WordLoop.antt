@@ -7,7 +7,7 @@ use Prim.Native.Nat.{ℕ, ◌+◌, ◌≤◌, ◌<◌}
 use native.Mathlib.Omega.{arith}
 use lib.ListN.{length, drop, length-drop}
 use Rattle.rules.specs.Characters.{char_length}
-use Rattle.syntax.specs.Input.{Input, source_of}
+use Rattle.rules.specs.Checks.{Tables, source_of}
 use Rattle.rules.specs.Cursor.{Cursor, peek_text, rest_length}
 use Rattle.rules.specs.Flat.{flat}
 use Rattle.rules.specs.Items.{character, if_matched}
@@ -32,23 +32,23 @@ use Rattle.parser.proofs.AfterArgument.{character_behind}
 use Rattle.parser.proofs.ArgumentLoop.{Far, by_kind, arguments-end, arguments-stop, arguments-take, arguments-take_less}
 
 -- the routine outside the cycle that reads one character as an argument
-abbrev Routine : (Input → Type 0) → Parser → Buffers → Step → Buffers → Type 0
+abbrev Routine : (Tables → Type 0) → Parser → Buffers → Step → Buffers → Type 0
 Routine sees q v r x = Ran sees 1 (λ s n. argument_node (flat n) s (single_char (flat n) s)) q v r x
 
 -- what it reads is an argument of that piece
-as_argument : {t : Input} {sees : Input → Type 0} {q : Parser} {v : Buffers} {r : Step} {x : Buffers} → sees t → Ready t q v → Routine sees q v r x
+as_argument : {t : Tables} {sees : Tables → Type 0} {q : Parser} {v : Buffers} {r : Step} {x : Buffers} → sees t → Ready t q v → Routine sees q v r x
     → Runs t 1 (λ n d. spec.argument (flat n) (source_of t) (inner_at t n d) character (pos_of q v)) q v r x
 unfolding spec.argument spec.piece
 as_argument seen ready k = runs_as (ran-runs seen ready k) (λ n d. refl)
 
-module _ (t : Input) where
+module _ (t : Tables) where
   -- these bytes are what is left of the next token, which is a Word
   pub record Before (word : List ℕ) (q : Parser) : Type 0 where
     pub there : Next t q
     pub kind : kind_at t.tokens q.lexer.token ≡ Word
     pub is : word ≡ peek_text t.text t.tokens (cursor_of q.lexer)
 
-  abbrev Sees : List ℕ → Parser → Input → Type 0
+  abbrev Sees : List ℕ → Parser → Tables → Type 0
   Sees word q u = (u.tokens ≡ t.tokens) × (word ≡ peek_text u.text t.tokens (cursor_of q.lexer))
 
   module _ (p : Parser) (first : Matcher) (b : Buffers) where

@@ -1,18 +1,17 @@
 -- The contract of a member of the cycle, over the lists that the lent slices hold.
-use Rattle.std.specs.Prelude.{ℕ, ◌<◌, Bool, true, false, cond, ◌⊎◌, ◌≡◌, List}
+use Rattle.std.specs.Prelude.{ℕ, ◌<◌, ◌≤◌, ◌/◌, Bool, true, false, cond, ◌⊎◌, ◌≡◌, List, length}
 use Rattle.std.proofs.Math.Option.{Option}
-use Rattle.rules.specs.Checks.{Tables}
-use Rattle.syntax.specs.Input.{Input, together, source_of, Shaped}
-use Rattle.syntax.specs.declared.settings.Settings.{Settings}
+use Rattle.rules.specs.Checks.{Tables, source_of}
 use Rattle.rules.specs.Flat.{flat}
 use Rattle.rules.specs.Items.{greedy_stops}
+use Rattle.rules.specs.Limits.{shape_width}
 use Rattle.rules.specs.Matcher.{Matcher}
 use Rattle.rules.specs.Outcome.{Out}
 use Rattle.rules.specs.Position.{Rule, asked}
 use Rattle.rules.specs.Reading.{content, content_at, items, item_list, last_after, arguments, greedy_items}
 use Rattle.rules.specs.Routines.{turns}
 use Rattle.rules.specs.Scope.{Scope, stops}
-use Rattle.rules.specs.Tables.{token_count}
+use Rattle.rules.specs.Tables.{token_count, shape_at}
 use Rattle.state.specs.Stands.{Buffers, Here, pos_of, mark_at, kept_of, mark_in, no_mark}
 use Rattle.state.specs.Change.{relisted, remarked}
 use Rattle.state.specs.Contract.{Runs, Slice, Moments}
@@ -32,37 +31,37 @@ abbrev pub Inside : Type 0
 Inside = (n : ℕ) → (Bool → Rule (flat n)) → Here → Out Here
 
 -- reads an item inside a node below which d more may be opened
-abbrev pub inner_at : Input → (n d : ℕ) → Bool → Rule (flat n)
+abbrev pub inner_at : Tables → (n d : ℕ) → Bool → Rule (flat n)
 inner_at t n d = content_at (flat n) (source_of t) d
 
 -- a member that opens a node before it reads an item: its rule, at every level that is enough
-abbrev pub Opening : Input → ℕ → Inside → Parser → Buffers → Step → Buffers → Type 0
+abbrev pub Opening : Tables → ℕ → Inside → Parser → Buffers → Step → Buffers → Type 0
 Opening t gain rule p m r v = Runs t gain (λ n d. rule n (inner_at t n d) (pos_of p m)) p m r v
 
 -- a member that reads items in the node that is open
-abbrev pub Within : Input → ℕ → Inside → Parser → Buffers → Step → Buffers → Type 0
+abbrev pub Within : Tables → ℕ → Inside → Parser → Buffers → Step → Buffers → Type 0
 Within t gain rule p m r v = Runs t gain (λ n d. rule n (content (flat n) (source_of t) (inner_at t n d)) (pos_of p m)) p m r v
 
 -- ---- the same over the parameters themselves: the tables, the buffers and the state, in the order of the code
 
--- the tables, at the entry, and the settings
-abbrev pub given : Slice → Slice → Slice → Slice → Settings → Input
-given text tokens shapes states settings = together text.now tokens.now shapes.now states.now settings
+-- the tables, at the entry
+abbrev pub given : Slice → Slice → Slice → Slice → Tables
+given text tokens shapes states = tables text.now tokens.now shapes.now states.now
 
 -- what a member that opens a node before it reads an item comes to
-abbrev pub Opened : Moments → Moments → Moments → Moments → Moments → Moments → Parser → Settings → Step → ℕ → (Input → Inside) → Type 0
-Opened text tokens shapes states tree dropped p settings r gain rule =
-    let t = given text.entry tokens.entry shapes.entry states.entry settings in
+abbrev pub Opened : Moments → Moments → Moments → Moments → Moments → Moments → Parser → Step → ℕ → (Tables → Inside) → Type 0
+Opened text tokens shapes states tree dropped p r gain rule =
+    let t = given text.entry tokens.entry shapes.entry states.entry in
     Opening t gain (rule t) p (lent tree.entry dropped.entry) r (lent tree.exit dropped.exit)
 
 -- what a member that reads items in the node that is open comes to
-abbrev pub Stayed : Moments → Moments → Moments → Moments → Moments → Moments → Parser → Settings → Step → ℕ → (Input → Inside) → Type 0
-Stayed text tokens shapes states tree dropped p settings r gain rule =
-    let t = given text.entry tokens.entry shapes.entry states.entry settings in
+abbrev pub Stayed : Moments → Moments → Moments → Moments → Moments → Moments → Parser → Step → ℕ → (Tables → Inside) → Type 0
+Stayed text tokens shapes states tree dropped p r gain rule =
+    let t = given text.entry tokens.entry shapes.entry states.entry in
     Within t gain (rule t) p (lent tree.entry dropped.entry) r (lent tree.exit dropped.exit)
 
 -- a token is next
-abbrev pub Next : Input → Parser → Type 0
+abbrev pub Next : Tables → Parser → Type 0
 Next t p = p.lexer.token < token_count t.tokens
 
 -- ---- lists
@@ -81,19 +80,19 @@ abbrev pub mark_here : Parser → KeptMark
 mark_here p = kept_of (mark_at p)
 
 -- an item began at p: with a token, whose shape is in the table, in a node that is open
-abbrev pub Began : List ℕ → List ℕ → Parser → Settings → Type 0
-Began tokens shapes p settings =
-    (p.lexer.token < token_count tokens) × Shaped settings tokens shapes p.lexer.token × (0 < p.builder.rows)
+abbrev pub Began : List ℕ → List ℕ → Parser → Type 0
+Began tokens shapes p =
+    (p.lexer.token < token_count tokens) × (shape_at tokens p.lexer.token ≤ length shapes / shape_width) × (0 < p.builder.rows)
 
 -- the state behind an item that began at p and ended at q: by the rule, and the list's scope and start are q's
-pub record LastAfter (tokens shapes : List ℕ) (settings : Settings) (p q r : Parser) : Type 0 where
-  pub is : (t : Input) → t.tokens ≡ tokens → t.shapes ≡ shapes → t.settings ≡ settings → (n : ℕ) (m v : Buffers)
+pub record LastAfter (tokens shapes : List ℕ) (p q r : Parser) : Type 0 where
+  pub is : (t : Tables) → t.tokens ≡ tokens → t.shapes ≡ shapes → (n : ℕ) (m v : Buffers)
       → last_after (flat n) (source_of t) (pos_of p m) (pos_of q v) ≡ pos_of r v
   pub last : (r.list.last ≡ q.list.last) ⊎ (r.list.last ≡ mark_here p)
   pub same : r ≡ remarked q q.list.start r.list.last
 
 -- the items of a list from here on, with turns enough
-abbrev pub list_items : Input → Bool → Inside
+abbrev pub list_items : Tables → Bool → Inside
 list_items t greedy n inner q = items (flat n) (source_of t) inner (stops_of greedy q.list.scope) (turns (flat n) (source_of t) q) q
 
 -- ---- how far is read
@@ -105,7 +104,7 @@ gain_of Greedy = 0
 gain_of OneItem = 1
 
 -- where one item is read, a token is next
-abbrev pub NextIf : Extent → Input → Parser → Type 0
+abbrev pub NextIf : Extent → Tables → Parser → Type 0
 NextIf (Scoped scope) t p = Unit {0}
 NextIf Greedy t p = Unit {0}
 NextIf OneItem t p = Next t p
@@ -129,19 +128,19 @@ closed Greedy p q = remarked q (kept_of (mark_in p.list.start)) no_mark
 closed OneItem p q = q
 
 -- the state behind an item
-abbrev pub Behind : Extent → (tokens shapes : List ℕ) (settings : Settings) (p q r : Parser) → Type 0
-Behind (Scoped scope) tokens shapes settings p q r = LastAfter tokens shapes settings p q r
-Behind Greedy tokens shapes settings p q r = LastAfter tokens shapes settings p q r
-Behind OneItem tokens shapes settings p q r = r ≡ q
+abbrev pub Behind : Extent → (tokens shapes : List ℕ) (p q r : Parser) → Type 0
+Behind (Scoped scope) tokens shapes p q r = LastAfter tokens shapes p q r
+Behind Greedy tokens shapes p q r = LastAfter tokens shapes p q r
+Behind OneItem tokens shapes p q r = r ≡ q
 
 -- the items that a loop reads
-abbrev pub items_of : Input → Extent → Inside
+abbrev pub items_of : Tables → Extent → Inside
 items_of t (Scoped scope) n inner q = list_items t false n inner q
 items_of t Greedy n inner q = list_items t true n inner q
 items_of t OneItem n inner q = inner false q
 
 -- what an extent reads
-abbrev pub inside_of : Input → Extent → Inside
+abbrev pub inside_of : Tables → Extent → Inside
 inside_of t (Scoped scope) n inner q = item_list (flat n) (source_of t) inner (scope_of scope) q
 inside_of t Greedy n inner q = greedy_items (flat n) (source_of t) inner q
 inside_of t OneItem n inner q = inner false q
@@ -149,5 +148,5 @@ inside_of t OneItem n inner q = inner false q
 -- ---- arguments
 
 -- the arguments from here on, with turns enough
-abbrev pub all_arguments : Input → Matcher → Inside
+abbrev pub all_arguments : Tables → Matcher → Inside
 all_arguments t m n inner q = arguments (flat n) (source_of t) inner (turns (flat n) (source_of t) q) m q

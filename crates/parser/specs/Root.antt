@@ -1,6 +1,6 @@
 -- What the contract of the root says: all tokens are read from nothing.
 use Rattle.std.specs.Prelude.{ℕ, ◌*◌, ◌≤◌, ◌≡◌, List, length, drop}
-use Rattle.syntax.specs.Input.{Input, source_of}
+use Rattle.rules.specs.Checks.{Tables, source_of}
 use Rattle.rules.specs.Flat.{flat, empty}
 use Rattle.rules.specs.Limits.{tree_width, dropped_width}
 use Rattle.rules.specs.Reading.{parse}
@@ -23,7 +23,7 @@ at_root =
     }
 
 -- tables that were not refused, and room for a dropped row a token
-pub record Readable (t : Input) (dropped : List ℕ) : Type 0 where
+pub record Readable (t : Tables) (dropped : List ℕ) : Type 0 where
   pub good : Good t
   pub room : token_count t.tokens * dropped_width ≤ length dropped
 
@@ -35,6 +35,6 @@ pub record Written (m : Buffers) (v : Buffers) (q : Parser) : Type 0 where
   pub dropped-rest : drop (q.dropped * dropped_width) v.dropped ≡ drop (q.dropped * dropped_width) m.dropped
 
 -- the root came to what its rule says; a refusal says its number and its place, and nothing of the buffers
-pub record Parsed (t : Input) (m : Buffers) (r : Step) (v : Buffers) : Type 0 where
+pub record Parsed (t : Tables) (m : Buffers) (r : Step) (v : Buffers) : Type 0 where
   pub is : parse (flat (length m.tree)) (source_of t) empty ≡ out_of r v
   pub gone : Gone (Written m v) r

@@ -3,7 +3,7 @@ mod lists;
 mod root;
 
 ghost use Rattle.std.specs.Prelude.{false};
-ghost use Rattle.syntax.specs.Input.{source_of};
+ghost use Rattle.rules.specs.Checks.{source_of};
 ghost use Rattle.rules.specs.Flat.{flat};
 ghost use Rattle.rules.specs.Items.{class_command};
 ghost use Rattle.rules.specs.Reading as spec;
@@ -28,7 +28,7 @@ use routines::{
 };
 use skipped::skipped_body;
 use state::{Mark, Parser, Step};
-use syntax::{Class, Form, Limits, ParseScope, Refusal, Settings, SyntaxKind, Token};
+use syntax::{Class, Form, Limits, ParseScope, Refusal, SyntaxKind, Token};
 
 // Only for speed. Nanoseconds a token with and without each, on the benchmark's binder, measured on aarch64:
 //   26.5 / 38.9   the three extents go through one loop, and `inside` alone calls `items`: so an item is read at one place, and the compiler puts its
@@ -51,19 +51,18 @@ fn items(
     dropped: &mut [u32],
     p: Parser,
     extent: Extent,
-    settings: Settings,
 ) -> Step
-    requires { let t = given text tokens shapes states settings in Ready t p (lent tree dropped) × NextIf extent t p }
-    ensures { Stayed text tokens shapes states tree dropped p settings result (gain_of extent) (λ t. items_of t extent) }
+    requires { let t = given text tokens shapes states in Ready t p (lent tree dropped) × NextIf extent t p }
+    ensures { Stayed text tokens shapes states tree dropped p result (gain_of extent) (λ t. items_of t extent) }
 {
     let mut now = p;
     let mut first = true;
     while more_items(tokens, now, extent, first) {
-        let read = content(text, tokens, shapes, states, tree, dropped, now, settings);
+        let read = content(text, tokens, shapes, states, tree, dropped, now);
         let Step::Went(after) = read else {
             return read.again();
         };
-        now = behind(tokens, shapes, now, after, extent, settings);
+        now = behind(tokens, shapes, now, after, extent);
         first = false;
     }
     Step::Went(now)
@@ -80,15 +79,12 @@ fn inside(
     dropped: &mut [u32],
     p: Parser,
     extent: Extent,
-    settings: Settings,
 ) -> Step
-    requires { let t = given text tokens shapes states settings in Ready t p (lent tree dropped) × NextIf extent t p }
-    ensures { Stayed text tokens shapes states tree dropped p settings result (gain_of extent) (λ t. inside_of t extent) }
+    requires { let t = given text tokens shapes states in Ready t p (lent tree dropped) × NextIf extent t p }
+    ensures { Stayed text tokens shapes states tree dropped p result (gain_of extent) (λ t. inside_of t extent) }
 {
     let begun = opened(p, extent);
-    let listed = items(
-        text, tokens, shapes, states, tree, dropped, begun, extent, settings,
-    );
+    let listed = items(text, tokens, shapes, states, tree, dropped, begun, extent);
     let Step::Went(read) = listed else {
         return listed;
     };
@@ -107,11 +103,9 @@ fn item_group(
     dropped: &mut [u32],
     p: Parser,
     scope: ParseScope,
-    settings: Settings,
 ) -> Step
-    requires { let t = given text tokens shapes states settings in Ready t p (lent tree dropped) × Next t p }
-    ensures { let scope = scope_of scope in
-        Opened text tokens shapes states tree dropped p settings result 1 (λ t n inner. spec.item_group (flat n) (source_of t) inner scope) }
+    requires { let t = given text tokens shapes states in Ready t p (lent tree dropped) × Next t p }
+    ensures { Opened text tokens shapes states tree dropped p result 1 (λ t n inner. spec.item_group (flat n) (source_of t) inner (scope_of scope)) }
 {
     let opened = p.start_node(tree, group_kind(scope));
     let Step::Went(begun) = opened else {
@@ -130,7 +124,6 @@ fn item_group(
         dropped,
         entered,
         Extent::List(scope),
-        settings,
     );
     let Step::Went(read) = listed else {
         return listed;
@@ -153,28 +146,14 @@ fn piece(
     dropped: &mut [u32],
     p: Parser,
     what: Piece,
-    settings: Settings,
 ) -> Step
-    requires { let t = given text tokens shapes states settings in Ready t p (lent tree dropped) × Next t p }
-    ensures { let what = piece_for what in
-        Stayed text tokens shapes states tree dropped p settings result 1 (λ t n inner. spec.piece (flat n) (source_of t) inner what) }
+    requires { let t = given text tokens shapes states in Ready t p (lent tree dropped) × Next t p }
+    ensures { Stayed text tokens shapes states tree dropped p result 1 (λ t n inner. spec.piece (flat n) (source_of t) inner (piece_for what)) }
 {
     match what {
-        Piece::Within(scope) => item_group(
-            text, tokens, shapes, states, tree, dropped, p, scope, settings,
-        ),
+        Piece::Within(scope) => item_group(text, tokens, shapes, states, tree, dropped, p, scope),
         Piece::Brace => eat(tokens, tree, p),
-        Piece::Item => inside(
-            text,
-            tokens,
-            shapes,
-            states,
-            tree,
-            dropped,
-            p,
-            Extent::Item,
-            settings,
-        ),
+        Piece::Item => inside(text, tokens, shapes, states, tree, dropped, p, Extent::Item),
     }
 }
 
@@ -189,19 +168,15 @@ fn arg(
     dropped: &mut [u32],
     p: Parser,
     what: Piece,
-    settings: Settings,
 ) -> Step
-    requires { let t = given text tokens shapes states settings in Ready t p (lent tree dropped) × Next t p × Holding p }
-    ensures { let what = piece_for what in
-        Opened text tokens shapes states tree dropped p settings result 1 (λ t n inner. spec.argument (flat n) (source_of t) inner what) }
+    requires { let t = given text tokens shapes states in Ready t p (lent tree dropped) × Next t p × Holding p }
+    ensures { Opened text tokens shapes states tree dropped p result 1 (λ t n inner. spec.argument (flat n) (source_of t) inner (piece_for what)) }
 {
     let opened = begin_argument(tree, dropped, p);
     let Step::Went(begun) = opened else {
         return opened;
     };
-    let taken = piece(
-        text, tokens, shapes, states, tree, dropped, begun, what, settings,
-    );
+    let taken = piece(text, tokens, shapes, states, tree, dropped, begun, what);
     let Step::Went(read) = taken else {
         return taken;
     };
@@ -219,10 +194,9 @@ fn arguments(
     dropped: &mut [u32],
     p: Parser,
     m: ArgMatcher,
-    settings: Settings,
 ) -> Step
-    requires { let t = given text tokens shapes states settings in Ready t p (lent tree dropped) × Holding p }
-    ensures { Opened text tokens shapes states tree dropped p settings result 0 (λ t. all_arguments t (matcher_of m)) }
+    requires { let t = given text tokens shapes states in Ready t p (lent tree dropped) × Holding p }
+    ensures { Opened text tokens shapes states tree dropped p result 0 (λ t. all_arguments t (matcher_of m)) }
 {
     let mut now = p;
     let mut matcher = m;
@@ -258,9 +232,7 @@ fn arguments(
                     now = hold_trivia(now);
                 }
                 Choice::Takes(what, next) => {
-                    let read = arg(
-                        text, tokens, shapes, states, tree, dropped, now, what, settings,
-                    );
+                    let read = arg(text, tokens, shapes, states, tree, dropped, now, what);
                     let Step::Went(after) = read else {
                         return read.again();
                     };
@@ -285,10 +257,9 @@ fn match_arguments(
     dropped: &mut [u32],
     p: Parser,
     shape: Shape,
-    settings: Settings,
 ) -> Step
-    requires { let t = given text tokens shapes states settings in Ready t p (lent tree dropped) }
-    ensures { Opened text tokens shapes states tree dropped p settings result 0 (λ t n inner. spec.arguments_of (flat n) (source_of t) inner (shape_for shape)) }
+    requires { let t = given text tokens shapes states in Ready t p (lent tree dropped) }
+    ensures { Opened text tokens shapes states tree dropped p result 0 (λ t n inner. spec.arguments_of (flat n) (source_of t) inner (shape_for shape)) }
 {
     if shape.name_only() {
         return Step::Went(p.holding_none());
@@ -301,9 +272,7 @@ fn match_arguments(
     let cleared = p.with_marks(Mark::Nothing, Mark::Nothing);
     let last = cleared.list_last();
     let free = cleared.holding_none();
-    let read = arguments(
-        text, tokens, shapes, states, tree, dropped, free, matcher, settings,
-    );
+    let read = arguments(text, tokens, shapes, states, tree, dropped, free, matcher);
     let Step::Went(after) = read else {
         return read.again();
     };
@@ -322,10 +291,9 @@ fn greedy_command(
     dropped: &mut [u32],
     p: Parser,
     at: Mark,
-    settings: Settings,
 ) -> Step
-    requires { let t = given text tokens shapes states settings in Ready t p (lent tree dropped) × Next t p × MarkOk (kept_of at) p.builder }
-    ensures { Opened text tokens shapes states tree dropped p settings result 1 (λ t n inner. spec.greedy_command (flat n) (source_of t) inner (option_of at)) }
+    requires { let t = given text tokens shapes states in Ready t p (lent tree dropped) × Next t p × MarkOk (kept_of at) p.builder }
+    ensures { Opened text tokens shapes states tree dropped p result 1 (λ t n inner. spec.greedy_command (flat n) (source_of t) inner (option_of at)) }
 {
     let opened = start_around(tree, p, SyntaxKind::ITEM_CMD, at);
     let Step::Went(begun) = opened else {
@@ -348,7 +316,6 @@ fn greedy_command(
         dropped,
         entered,
         Extent::Greedy,
-        settings,
     );
     let Step::Went(read) = listed else {
         return listed;
@@ -373,10 +340,9 @@ fn with_arguments(
     p: Parser,
     kind: u32,
     shape: Shape,
-    settings: Settings,
 ) -> Step
-    requires { let t = given text tokens shapes states settings in Ready t p (lent tree dropped) × Next t p }
-    ensures { Opened text tokens shapes states tree dropped p settings result 1
+    requires { let t = given text tokens shapes states in Ready t p (lent tree dropped) × Next t p }
+    ensures { Opened text tokens shapes states tree dropped p result 1
         (λ t n inner. spec.with_arguments (flat n) (source_of t) inner kind (shape_for shape)) }
 {
     let opened = p.start_node(tree, kind);
@@ -387,9 +353,7 @@ fn with_arguments(
     let Step::Went(named) = eaten else {
         return eaten;
     };
-    let taken = match_arguments(
-        text, tokens, shapes, states, tree, dropped, named, shape, settings,
-    );
+    let taken = match_arguments(text, tokens, shapes, states, tree, dropped, named, shape);
     let Step::Went(read) = taken else {
         return taken;
     };
@@ -410,13 +374,12 @@ fn command(
     tree: &mut [u32],
     dropped: &mut [u32],
     p: Parser,
-    settings: Settings,
 ) -> Step
-    requires { let t = given text tokens shapes states settings in Ready t p (lent tree dropped) × Next t p }
-    ensures { Opened text tokens shapes states tree dropped p settings result 1
+    requires { let t = given text tokens shapes states in Ready t p (lent tree dropped) × Next t p }
+    ensures { Opened text tokens shapes states tree dropped p result 1
         (λ t n inner q. spec.command_of (flat n) (source_of t) inner (spec.shape_here (flat n) (source_of t) class_command q) q) }
 {
-    let shape = Shape::of_token(tokens, shapes, p.lexer.token, settings).of_class(Class::COMMAND);
+    let shape = Shape::of_token(tokens, shapes, p.lexer.token).of_class(Class::COMMAND);
     if shape.name_only() {
         return one_in(tokens, tree, p, SyntaxKind::ITEM_CMD);
     }
@@ -427,7 +390,7 @@ fn command(
         let start = p.list_start();
         let startless = p.with_marks(Mark::Nothing, p.list_last());
         return greedy_command(
-            text, tokens, shapes, states, tree, dropped, startless, start, settings,
+            text, tokens, shapes, states, tree, dropped, startless, start,
         );
     }
     let matcher = shape.matcher();
@@ -441,13 +404,10 @@ fn command(
             dropped,
             p,
             Mark::Nothing,
-            settings,
         );
     }
     let kind = SyntaxKind::ITEM_CMD;
-    with_arguments(
-        text, tokens, shapes, states, tree, dropped, p, kind, shape, settings,
-    )
+    with_arguments(text, tokens, shapes, states, tree, dropped, p, kind, shape)
 }
 
 // An environment: its \begin, its body, its \end.
@@ -461,18 +421,15 @@ fn environment(
     tree: &mut [u32],
     dropped: &mut [u32],
     p: Parser,
-    settings: Settings,
 ) -> Step
-    requires { let t = given text tokens shapes states settings in Ready t p (lent tree dropped) × Next t p }
-    ensures { Opened text tokens shapes states tree dropped p settings result 1 (λ t n inner. spec.environment_item (flat n) (source_of t) inner) }
+    requires { let t = given text tokens shapes states in Ready t p (lent tree dropped) × Next t p }
+    ensures { Opened text tokens shapes states tree dropped p result 1 (λ t n inner. spec.environment_item (flat n) (source_of t) inner) }
 {
     let opened = p.start_node(tree, SyntaxKind::ITEM_ENV);
     let Step::Went(begun) = opened else {
         return opened;
     };
-    let shape = Shape::of_token(tokens, shapes, begun.lexer.token, settings).of_class(
-        Class::ENVIRONMENT,
-    );
+    let shape = Shape::of_token(tokens, shapes, begun.lexer.token).of_class(Class::ENVIRONMENT);
     let named = with_arguments(
         text,
         tokens,
@@ -483,7 +440,6 @@ fn environment(
         begun,
         SyntaxKind::ITEM_BEGIN,
         shape,
-        settings,
     );
     let Step::Went(entered) = named else {
         return named;
@@ -497,7 +453,6 @@ fn environment(
         dropped,
         entered,
         Extent::List(ParseScope::Environment),
-        settings,
     );
     let Step::Went(read) = listed else {
         return listed;
@@ -520,10 +475,9 @@ fn item_lr(
     tree: &mut [u32],
     dropped: &mut [u32],
     p: Parser,
-    settings: Settings,
 ) -> Step
-    requires { let t = given text tokens shapes states settings in Ready t p (lent tree dropped) × Next t p }
-    ensures { Opened text tokens shapes states tree dropped p settings result 1 (λ t n inner. spec.item_lr (flat n) (source_of t) inner) }
+    requires { let t = given text tokens shapes states in Ready t p (lent tree dropped) × Next t p }
+    ensures { Opened text tokens shapes states tree dropped p result 1 (λ t n inner. spec.item_lr (flat n) (source_of t) inner) }
 {
     let opened = p.start_node(tree, SyntaxKind::ITEM_LR);
     let Step::Went(begun) = opened else {
@@ -542,7 +496,6 @@ fn item_lr(
         dropped,
         entered,
         Extent::List(ParseScope::LR),
-        settings,
     );
     let Step::Went(read) = listed else {
         return listed;
@@ -565,11 +518,9 @@ fn script(
     dropped: &mut [u32],
     p: Parser,
     has_script: bool,
-    settings: Settings,
 ) -> Step
-    requires { let t = given text tokens shapes states settings in Ready t p (lent tree dropped) }
-    ensures { let script = has_script in
-        Stayed text tokens shapes states tree dropped p settings result 0 (λ t n inner. spec.script (flat n) (source_of t) inner script) }
+    requires { let t = given text tokens shapes states in Ready t p (lent tree dropped) }
+    ensures { Stayed text tokens shapes states tree dropped p result 0 (λ t n inner. spec.script (flat n) (source_of t) inner has_script) }
 {
     if !has_script {
         return Step::Went(p);
@@ -597,7 +548,6 @@ fn script(
         dropped,
         after,
         Extent::Item,
-        settings,
     )
     .again()
 }
@@ -614,10 +564,9 @@ fn attach_component(
     dropped: &mut [u32],
     p: Parser,
     has_script: bool,
-    settings: Settings,
 ) -> Step
-    requires { let t = given text tokens shapes states settings in Ready t p (lent tree dropped) × Next t p }
-    ensures { Opened text tokens shapes states tree dropped p settings result 1 (λ t n inner. spec.attach_component (flat n) (source_of t) inner has_script) }
+    requires { let t = given text tokens shapes states in Ready t p (lent tree dropped) × Next t p }
+    ensures { Opened text tokens shapes states tree dropped p result 1 (λ t n inner. spec.attach_component (flat n) (source_of t) inner has_script) }
 {
     let last = p.list_last();
     if !has_script {
@@ -634,7 +583,7 @@ fn attach_component(
         return eaten;
     };
     let scripted = script(
-        text, tokens, shapes, states, tree, dropped, marked, has_script, settings,
+        text, tokens, shapes, states, tree, dropped, marked, has_script,
     );
     let Step::Went(read) = scripted else {
         return scripted;
@@ -652,10 +601,9 @@ fn content(
     tree: &mut [u32],
     dropped: &mut [u32],
     p: Parser,
-    settings: Settings,
 ) -> Step
-    requires { let t = given text tokens shapes states settings in Ready t p (lent tree dropped) × Next t p }
-    ensures { Opened text tokens shapes states tree dropped p settings result 1 (λ t n inner. spec.content (flat n) (source_of t) inner false) }
+    requires { let t = given text tokens shapes states in Ready t p (lent tree dropped) × Next t p }
+    ensures { Opened text tokens shapes states tree dropped p result 1 (λ t n inner. spec.content (flat n) (source_of t) inner false) }
 {
     let token = p.lexer.token;
     let kind = cell(tokens, token, Column::KIND);
@@ -671,17 +619,14 @@ fn content(
         Item::Group(scope) => {
             // Only for speed: see above.
             let copy = p;
-            item_group(
-                text, tokens, shapes, states, tree, dropped, copy, scope, settings,
-            )
-            .again()
+            item_group(text, tokens, shapes, states, tree, dropped, copy, scope).again()
         }
         Item::Attachment(has_script) => attach_component(
-            text, tokens, shapes, states, tree, dropped, p, has_script, settings,
+            text, tokens, shapes, states, tree, dropped, p, has_script,
         ),
-        Item::Command => command(text, tokens, shapes, states, tree, dropped, p, settings),
-        Item::Environment => environment(text, tokens, shapes, states, tree, dropped, p, settings),
-        Item::LeftRight => item_lr(text, tokens, shapes, states, tree, dropped, p, settings),
+        Item::Command => command(text, tokens, shapes, states, tree, dropped, p),
+        Item::Environment => environment(text, tokens, shapes, states, tree, dropped, p),
+        Item::LeftRight => item_lr(text, tokens, shapes, states, tree, dropped, p),
         Item::Skipped(node) => skipped_body(tokens, tree, dropped, p, node),
     }
 }

@@ -9,7 +9,7 @@ ghost use Rattle.parser.specs.Member.{goes_on, Began, LastAfter, Behind, more, o
 use items::{Shape, attachable, greedy_stops};
 use lexer::{Column, Peeked, cell};
 use state::{Mark, Parser};
-use syntax::{ParseScope, Settings};
+use syntax::ParseScope;
 
 // How far is read: a new list of a scope, all that a greedy command takes, or one item. That all three go through one loop is only for speed:
 // see that heading in lib.rt.
@@ -70,12 +70,12 @@ pub fn closed(p: Parser, q: Parser, extent: Extent) -> Parser
 }
 
 // The mark before an item that is attachable becomes last: p is where the item began, q where it ended.
-fn last_after(tokens: &[u32], shapes: &[u32], p: Parser, q: Parser, settings: Settings) -> Parser
-    requires { Began tokens.now shapes.now p settings }
-    ensures { LastAfter tokens.now shapes.now settings p q result }
+fn last_after(tokens: &[u32], shapes: &[u32], p: Parser, q: Parser) -> Parser
+    requires { Began tokens.now shapes.now p }
+    ensures { LastAfter tokens.now shapes.now p q result }
 {
     let token = p.lexer.token;
-    let shape = Shape::of_token(tokens, shapes, token, settings);
+    let shape = Shape::of_token(tokens, shapes, token);
     if attachable(cell(tokens, token, Column::KIND), shape) {
         return q.with_last(p.checkpoint());
     }
@@ -83,20 +83,13 @@ fn last_after(tokens: &[u32], shapes: &[u32], p: Parser, q: Parser, settings: Se
 }
 
 // The state behind an item: where one item is read, last is left alone.
-pub fn behind(
-    tokens: &[u32],
-    shapes: &[u32],
-    p: Parser,
-    q: Parser,
-    extent: Extent,
-    settings: Settings,
-) -> Parser
-    requires { Began tokens.now shapes.now p settings }
-    ensures { Behind extent tokens.now shapes.now settings p q result }
+pub fn behind(tokens: &[u32], shapes: &[u32], p: Parser, q: Parser, extent: Extent) -> Parser
+    requires { Began tokens.now shapes.now p }
+    ensures { Behind extent tokens.now shapes.now p q result }
 {
     match extent {
-        Extent::List(_) => last_after(tokens, shapes, p, q, settings),
-        Extent::Greedy => last_after(tokens, shapes, p, q, settings),
+        Extent::List(_) => last_after(tokens, shapes, p, q),
+        Extent::Greedy => last_after(tokens, shapes, p, q),
         Extent::Item => q,
     }
 }

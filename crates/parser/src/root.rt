@@ -8,7 +8,7 @@ use crate::lists::Extent;
 use builder::GreenNodeBuilder;
 use lexer::Lexer;
 use state::{ListState, Parser, Step};
-use syntax::{ParseScope, Settings, SyntaxKind};
+use syntax::{ParseScope, SyntaxKind};
 
 // Before the first token: nothing is held, marked, built or dropped.
 fn at_start() -> Parser
@@ -31,10 +31,9 @@ pub fn parse(
     states: &[u32],
     tree: &mut [u32],
     dropped: &mut [u32],
-    settings: Settings,
 ) -> Step
-    requires { Readable (given text tokens shapes states settings) dropped.old }
-    ensures { let t = given text.entry tokens.entry shapes.entry states.entry settings in
+    requires { Readable (given text tokens shapes states) dropped.old }
+    ensures { let t = given text.entry tokens.entry shapes.entry states.entry in
         Parsed t (lent tree.entry dropped.entry) result (lent tree.exit dropped.exit) }
 {
     let p = at_start();
@@ -51,7 +50,6 @@ pub fn parse(
         dropped,
         begun,
         Extent::List(ParseScope::Root),
-        settings,
     );
     let Step::Went(read) = listed else {
         return listed;

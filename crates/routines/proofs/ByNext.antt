@@ -5,7 +5,7 @@ use mathlib.Core.List.{List}
 use mathlib.Core.Option.{Option}
 use Prim.Native.Nat.{ℕ, ◌<◌}
 use lib.Dec.{eqb}
-use Rattle.syntax.specs.Input.{Input, source_of}
+use Rattle.rules.specs.Checks.{Tables, source_of}
 use Rattle.rules.specs.Cursor.{Cursor, peek}
 use Rattle.rules.specs.Flat.{flat}
 use Rattle.rules.specs.Outcome.{went}
@@ -26,15 +26,15 @@ abbrev pub by_next : (Option ℕ → RuleOf) → RuleOf
 by_next of s n q = of (peek s.tokens q.lexer) s n q
 
 -- what the code was told is next in the tables too
-same_next : (t : Input) (tokens : List ℕ) (c : Cursor) {next : Option ℕ} → t.tokens ≡ tokens → peek tokens c ≡ next → peek t.tokens c ≡ next
+same_next : (t : Tables) (tokens : List ℕ) (c : Cursor) {next : Option ℕ} → t.tokens ≡ tokens → peek tokens c ≡ next → peek t.tokens c ≡ next
 same_next t tokens c seen told = rw seen told
 
-arm_is : (of : Option ℕ → RuleOf) (t : Input) (tokens : List ℕ) {next : Option ℕ} (n : ℕ) (q : Here) → t.tokens ≡ tokens
+arm_is : (of : Option ℕ → RuleOf) (t : Tables) (tokens : List ℕ) {next : Option ℕ} (n : ℕ) (q : Here) → t.tokens ≡ tokens
     → peek tokens q.lexer ≡ next
     → by_next of (source_of t) n q ≡ of next (source_of t) n q
 arm_is of t tokens n q seen told = ap (λ o. of o (source_of t) n q) (same_next t tokens q.lexer seen told)
 
-module _ {sees : Input → Type 0} {tokens : List ℕ} (rows : (t : Input) → sees t → t.tokens ≡ tokens) {p : Parser} {m : Buffers} {next : Option ℕ}
+module _ {sees : Tables → Type 0} {tokens : List ℕ} (rows : (t : Tables) → sees t → t.tokens ≡ tokens) {p : Parser} {m : Buffers} {next : Option ℕ}
     (of : Option ℕ → RuleOf) (told : peek tokens (cursor_of p.lexer) ≡ next) where
   -- the arm is another routine, which ran
   pub arm_ran : {arm : RuleOf} {gain : ℕ} {r : Step} {v : Buffers} → ((s : Source) (n : ℕ) (q : Here) → of next s n q ≡ arm s n q)
@@ -56,9 +56,9 @@ abbrev if_next_lem : ℕ → RuleOf → RuleOf
 if_next_lem kind read s n = if_next (flat n) s kind (read s n)
 
 module _ (tokens : List ℕ) (kind : ℕ) (p : Parser) {answer : Bool} (told : answer ≡ asked (eqb kind) (peek tokens (cursor_of p.lexer)))
-    {sees : Input → Type 0} (rows : (t : Input) → sees t → t.tokens ≡ tokens) where
+    {sees : Tables → Type 0} (rows : (t : Tables) → sees t → t.tokens ≡ tokens) where
   -- the tables answer the same
-  asks : {is : Bool} → answer ≡ is → (t : Input) → sees t → asked (eqb kind) (peek t.tokens (cursor_of p.lexer)) ≡ is
+  asks : {is : Bool} → answer ≡ is → (t : Tables) → sees t → asked (eqb kind) (peek t.tokens (cursor_of p.lexer)) ≡ is
   asks e t seen = rw (rows t seen) (sym told ∙ e)
 
   module _ (read : RuleOf) {m : Buffers} where

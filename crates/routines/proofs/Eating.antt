@@ -7,7 +7,7 @@ use Prim.Native.Nat.{ℕ, zero, suc, ◌<◌}
 use native.Mathlib.Omega.{arith}
 use lib.ListN.{length}
 use Rattle.rules.specs.Flat.{flat}
-use Rattle.syntax.specs.Input.{Input, source_of}
+use Rattle.rules.specs.Checks.{Tables, source_of}
 use Rattle.rules.specs.Cursor.{Cursor, peek, left}
 use Rattle.rules.specs.Position.{asked}
 use Rattle.rules.specs.Routines.{eat, eat_while}
@@ -34,16 +34,16 @@ abbrev pub eating : (ℕ → Bool) → RuleOf
 eating test s n q = eat_while (flat n) s test (left s.tokens q.lexer) q
 
 -- what is left of it, with so many turns
-abbrev more : (ℕ → Bool) → Input → ℕ → Rule
+abbrev more : (ℕ → Bool) → Tables → ℕ → Rule
 more test t fuel n d = eat_while (flat n) (source_of t) test fuel
 
 -- the tables with these rows
-abbrev Sees : List ℕ → Input → Type 0
+abbrev Sees : List ℕ → Tables → Type 0
 Sees tokens t = t.tokens ≡ tokens
 
 -- the walk so far, from p and `tree` to q and `after`: for all tables that agree, and all dropped buffers
 pub record Eating (test : ℕ → Bool) (tokens : List ℕ) (p : Parser) (tree : List ℕ) (q : Parser) (after : List ℕ) : Type 0 where
-  pub far : (t : Input) (notes : List ℕ) → Sees tokens t → Ready t p (buffers tree notes)
+  pub far : (t : Tables) (notes : List ℕ) → Sees tokens t → Ready t p (buffers tree notes)
       → Far t (λ n d. eating test (source_of t) n) (more test t) p (buffers tree notes) q (buffers after notes)
 
 pub eating_begins : {test : ℕ → Bool} {tokens : List ℕ} {p : Parser} {tree : List ℕ} → Eating test tokens p tree p tree
@@ -65,7 +65,7 @@ module _ {test : ℕ → Bool} {tokens : List ℕ} {p : Parser} {tree : List ℕ
       eating_next s = (there, somehow_then s (e.far s.t s.notes s.seen s.ready).walk.ready)
 
       -- one turn of it: a token is eaten, and then it goes on
-      turn : (t : Input) (notes : List ℕ) → Sees tokens t → Ready t p (buffers tree notes)
+      turn : (t : Tables) (notes : List ℕ) → Sees tokens t → Ready t p (buffers tree notes)
           → OneTurn t (λ n d. eating test (source_of t) n) (more test t) p (buffers tree notes) q (buffers after notes)
       unfolding eat_while
       turn t notes seen ready =
@@ -89,7 +89,7 @@ module _ {test : ℕ → Bool} {tokens : List ℕ} {p : Parser} {tree : List ℕ
         eating_stops st notes = ran-by (λ t seen ready. stops (turn t notes seen ready).walk (ran seen (ate notes)) st)
 
     module _ (no : answer ≡ false) where
-      ended : (t : Input) (notes : List ℕ) → Sees tokens t → (fuel : ℕ) → (n d : ℕ)
+      ended : (t : Tables) (notes : List ℕ) → Sees tokens t → (fuel : ℕ) → (n d : ℕ)
           → line (more test t fuel ∷ []) n d (pos_of q (buffers after notes)) ≡ line [] n d (pos_of q (buffers after notes))
       unfolding eat_while line
       ended t notes seen zero n d = refl

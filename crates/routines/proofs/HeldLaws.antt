@@ -10,7 +10,7 @@ use Rattle.rules.specs.Limits.{tree_width, dropped_width}
 use Rattle.rules.specs.Outcome.{Out, went, bind}
 use Rattle.rules.specs.Builder.{Leaf}
 use Rattle.rules.specs.Flat.{Built, flat, dropped_row, reason_trivia}
-use Rattle.syntax.specs.Input.{Input, source_of}
+use Rattle.rules.specs.Checks.{Tables, source_of}
 use Rattle.rules.specs.Kinds.{leaf_kind}
 use Rattle.rules.specs.Position as position
 use Rattle.rules.specs.Position.{Source}
@@ -33,7 +33,7 @@ use Rattle.state.proofs.Walk.{Call, Stopped, stop, stopped, drop_more, passing}
 -- ---- a token is held
 
 -- the next one, where there is one
-pub holds : {t : Input} {p : Parser} {m : Buffers} {r : Parser} {lift : ℕ} → p.lexer.token < token_count t.tokens
+pub holds : {t : Tables} {p : Parser} {m : Buffers} {r : Parser} {lift : ℕ} → p.lexer.token < token_count t.tokens
     → r ≡ relexed p (record { token = p.lexer.token + 1; taken = 0 })
     → Call t (λ n d q. went (hold_trivia (flat n) (source_of t) q)) lift (λ q. Left t 1 p m q m) p m (Went r) m
 holds there e = rw e (record {
@@ -56,7 +56,7 @@ abbrev let_go : Parser → ℕ → Parser
 let_go p count = record { lexer = p.lexer; held = p.lexer.token; list = p.list; builder = p.builder; dropped = count }
 
 -- a routine that comes to it, and writes dropped rows at most
-lets_go : {t : Input} {p : Parser} {tree before after : List ℕ} (count : ℕ) → p.dropped ≤ count → count ≤ p.lexer.token
+lets_go : {t : Tables} {p : Parser} {tree before after : List ℕ} (count : ℕ) → p.dropped ≤ count → count ≤ p.lexer.token
     → drop (count * dropped_width) after ≡ drop (count * dropped_width) before → length after ≡ length before
     → Ready t p (buffers tree before) → Left t 0 p (buffers tree before) (let_go p count) (buffers tree after)
 lets_go count more few rest long ready =
@@ -64,13 +64,13 @@ lets_go count more few rest long ready =
     remains ready (passing refl rest refl long (omega arith))
     s.fine s.token few s.fits refl refl refl refl
 
-pub holding_none_lem : {t : Input} {p : Parser} {m : Buffers} → Ready t p m → Holding (unheld p)
+pub holding_none_lem : {t : Tables} {p : Parser} {m : Buffers} → Ready t p m → Holding (unheld p)
 holding_none_lem ready = let few = ready.steady.dropped in record { held = omega arith; dropped = few }
 
 -- ---- what is held is dropped
 
 -- a state that is ready has room for it
-pub droppable : {t : Input} {p : Parser} {m : Buffers} → Ready t p m → Holding p → Droppable p m.dropped
+pub droppable : {t : Tables} {p : Parser} {m : Buffers} → Ready t p m → Holding p → Droppable p m.dropped
 droppable ready h =
     let s = ready.steady in
     let few = s.good.few in
@@ -154,7 +154,7 @@ module _ (p : Parser) (before : List ℕ) where
         rw e (record { state = ap (λ (n : ℕ). let_go p n) count_is; is = dropped-all end; rest = far.rest; long = far.long })
 
 -- a routine that drops what is held, as a step of a walk
-pub ignores : {t : Input} {p : Parser} {tree before : List ℕ} {r : Parser} {after : List ℕ} {lift : ℕ} → Holding p → Ignored p before r after
+pub ignores : {t : Tables} {p : Parser} {tree before : List ℕ} {r : Parser} {after : List ℕ} {lift : ℕ} → Holding p → Ignored p before r after
     → Call t (λ n d. ignore_holding_trivia (flat n) (source_of t)) lift (λ q. Left t 0 p (buffers tree before) q (buffers tree after))
     p (buffers tree before) (Went r) (buffers tree after)
 ignores {t} {p} {tree} h k = record {
@@ -169,19 +169,19 @@ ignores {t} {p} {tree} h k = record {
 -- ---- what is held becomes leaves
 
 module _ (tokens : List ℕ) (p : Parser) (tree : List ℕ) where
-  abbrev Sees : Input → Type 0
+  abbrev Sees : Tables → Type 0
   Sees t = t.tokens ≡ tokens
 
   abbrev with_notes : List ℕ → List ℕ → Buffers
   with_notes numbers notes = record { tree = numbers; dropped = notes }
 
   -- the leaves of so many tokens, from one on
-  abbrev some_leaves : Input → ℕ → ℕ → Here → Out Here
+  abbrev some_leaves : Tables → ℕ → ℕ → Here → Out Here
   some_leaves t count i = leaves_from (flat (length tree)) (source_of t) count i
 
   -- so far all before token i are leaves: those from i on are still to be
   pub record Extracting (after : List ℕ) (q : Parser) (i : ℕ) : Type 0 where
-    pub is : (t : Input) (notes : List ℕ) → Sees t
+    pub is : (t : Tables) (notes : List ℕ) → Sees t
         → some_leaves t (p.lexer.token - p.held) p.held (pos_of p (with_notes tree notes))
         ≡ some_leaves t (p.lexer.token - i) i (pos_of q (with_notes after notes))
     pub leaves : q.builder.leaves + (p.lexer.token - i) ≤ p.builder.leaves + (p.lexer.token - p.held)
@@ -242,7 +242,7 @@ module _ (tokens : List ℕ) (p : Parser) (tree : List ℕ) where
       wrote_this notes = wrote notes (rw far.lexer (omega arith)) (rw far.lexer few)
 
       -- one turn of it: a leaf, and then it goes on
-      turn : (t : Input) (notes : List ℕ) → Sees t
+      turn : (t : Tables) (notes : List ℕ) → Sees t
           → some_leaves t (p.lexer.token - i) i (pos_of q (with_notes after notes))
           ≡ bind (written notes) (λ u. some_leaves t (p.lexer.token - (i + 1)) (i + 1) u)
       unfolding leaves_from
@@ -288,7 +288,7 @@ module _ (tokens : List ℕ) (p : Parser) (tree : List ℕ) where
         };
       }
 
-    extracted : p.lexer.token ≤ i → (t : Input) (notes : List ℕ) → Sees t
+    extracted : p.lexer.token ≤ i → (t : Tables) (notes : List ℕ) → Sees t
         → extract_holding_trivia (flat (length tree)) (source_of t) (pos_of p (with_notes tree notes)) ≡ went (pos_of (unheld q) (with_notes after notes))
     unfolding extract_holding_trivia leaves_from
     extracted end t notes seen =

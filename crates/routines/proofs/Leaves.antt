@@ -8,7 +8,7 @@ use Rattle.rules.specs.Limits
 use Rattle.rules.specs.Outcome.{Out, went, bind}
 use Rattle.rules.specs.Flat.{flat}
 use Rattle.rules.specs.Builder.{Leaf}
-use Rattle.syntax.specs.Input.{Input, source_of}
+use Rattle.rules.specs.Checks.{Tables, source_of}
 use Rattle.rules.specs.Position as position
 use Rattle.rules.specs.Characters.{char_length}
 use Rattle.rules.specs.Cursor.{Cursor, left, eaten, consumed, rest_start, rest_length, peek_text}
@@ -36,7 +36,7 @@ abbrev pub leaf-then : Leaf → (Cursor → Cursor) → ℕ → Here → Out Her
 leaf-then leaf next n q = bind (position.leaf (flat n) leaf q) (λ u. went (position.with_lexer (flat n) (next u.lexer) u))
 
 -- where the cursor moves to: a fine one further on
-pub record Onward (t : Input) (p : Parser) (to : Cursor) : Type 0 where
+pub record Onward (t : Tables) (p : Parser) (to : Cursor) : Type 0 where
   pub fine : Fine t.text t.tokens to
   pub token : p.lexer.token ≤ to.token
   pub near : to.token ≤ p.lexer.token + 1
@@ -44,7 +44,7 @@ pub record Onward (t : Input) (p : Parser) (to : Cursor) : Type 0 where
   pub less : left t.tokens to < left t.tokens (cursor_of p.lexer)
 
 -- the leaf was written, and the cursor moved
-moved : (t : Input) (p : Parser) (tree after notes : List ℕ) → Ready t p (buffers tree notes) → (q : Parser) (l : Lexer) → Leafed p tree q after
+moved : (t : Tables) (p : Parser) (tree after notes : List ℕ) → Ready t p (buffers tree notes) → (q : Parser) (l : Lexer) → Leafed p tree q after
     → length after ≡ length tree → Onward t p (cursor_of l)
     → Left t 1 p (buffers tree notes) (relexed q l) (buffers after notes)
 moved t p tree after notes ready q l w long on =
@@ -60,8 +60,8 @@ moved t p tree after notes ready q l w long on =
     w.list
 
 -- a routine whose rule is such a leaf and such a step, for all tables that agree
-module _ {sees : Input → Type 0} {rule : RuleOf} {p : Parser} {tree after : List ℕ} (leaf : Leaf) (next : Cursor → Cursor)
-    (is : (t : Input) → sees t → (notes : List ℕ) (n : ℕ)
+module _ {sees : Tables → Type 0} {rule : RuleOf} {p : Parser} {tree after : List ℕ} (leaf : Leaf) (next : Cursor → Cursor)
+    (is : (t : Tables) → sees t → (notes : List ℕ) (n : ℕ)
     → rule (source_of t) n (pos_of p (buffers tree notes)) ≡ leaf-then leaf next n (pos_of p (buffers tree notes)))
     {r : Step}
     (wrote : (notes : List ℕ)
@@ -75,7 +75,7 @@ module _ {sees : Input → Type 0} {rule : RuleOf} {p : Parser} {tree after : Li
   }
 
   pub leaf-goes_on : {q z : Parser} (l : Lexer) → r ≡ Went q → z ≡ relexed q l → cursor_of l ≡ next (cursor_of q.lexer) → length after ≡ length tree
-      → ((t : Input) (notes : List ℕ) → sees t → Ready t p (buffers tree notes) → Onward t p (cursor_of l))
+      → ((t : Tables) (notes : List ℕ) → sees t → Ready t p (buffers tree notes) → Onward t p (cursor_of l))
       → (notes : List ℕ) → Ran sees 1 rule p (buffers tree notes) (Went z) (buffers after notes)
   leaf-goes_on {q} l e ez moves long on notes =
       let to-went = ap (λ (y : Step). out_of y (buffers after notes)) e in
@@ -111,7 +111,7 @@ small_token s =
     omega arith
 
 -- it is passed whole
-pub onward_eaten : {t : Input} {p : Parser} {m : Buffers} {l : Lexer} → Ready t p m → p.lexer.token < token_count t.tokens
+pub onward_eaten : {t : Tables} {p : Parser} {m : Buffers} {l : Lexer} → Ready t p m → p.lexer.token < token_count t.tokens
     → cursor_of l ≡ eaten (cursor_of p.lexer) → Onward t p (cursor_of l)
 onward_eaten {t} {p} ready there e =
     let fine = ready.steady.fine in
@@ -119,7 +119,7 @@ onward_eaten {t} {p} ready there e =
     rw e (record { fine = eaten-fine fine; token = omega arith; near = omega arith; inside = omega arith; less = less })
 
 -- `eat_as` as a leaf and a step of the cursor
-pub eat-as_is : (t : Input) (tokens : List ℕ) (p : Parser) (m : Buffers) (kind start size : ℕ) → t.tokens ≡ tokens
+pub eat-as_is : (t : Tables) (tokens : List ℕ) (p : Parser) (m : Buffers) (kind start size : ℕ) → t.tokens ≡ tokens
     → start ≡ rest_start tokens (cursor_of p.lexer) → size ≡ rest_length tokens (cursor_of p.lexer) → (n : ℕ)
     → eat_as (flat n) (source_of t) kind (pos_of p m)
     ≡ leaf-then (record { token = p.lexer.token; kind = kind; start = start; size = size }) eaten n (pos_of p m)
@@ -134,7 +134,7 @@ same-lexer {p = p} {q} {tree} {after} k e = let w : Leafed p tree q after = rw e
 -- ---- one character of a Word is passed
 
 -- the same tables and buffers, of which less is seen
-pub seen_less : {sees less : Input → Type 0} {p : Parser} {tree : List ℕ} → ((t : Input) → sees t → less t) → Somehow sees p tree
+pub seen_less : {sees less : Tables → Type 0} {p : Parser} {tree : List ℕ} → ((t : Tables) → sees t → less t) → Somehow sees p tree
     → Somehow less p tree
 seen_less f s = record { t = s.t; notes = s.notes; seen = f s.t s.seen; ready = s.ready }
 
@@ -150,7 +150,7 @@ consumed-inside tokens count c there =
     (λ more. rw (consumed-part tokens count c more) (omega arith, omega arith, omega arith))
     (le_or_lt (rest_length tokens c) count)
 
-pub onward_char : {t : Input} {p : Parser} {m : Buffers} {l : Lexer} → Ready t p m → p.lexer.token < token_count t.tokens
+pub onward_char : {t : Tables} {p : Parser} {m : Buffers} {l : Lexer} → Ready t p m → p.lexer.token < token_count t.tokens
     → kind_at t.tokens p.lexer.token ≡ Token.Word
     → cursor_of l ≡ consumed t.tokens (char_length (peek_text t.text t.tokens (cursor_of p.lexer))) (cursor_of p.lexer)
     → Onward t p (cursor_of l)
@@ -160,7 +160,7 @@ onward_char {t} {p} ready there word e =
     rw e (record { fine = char_fine fine there word; token = inside.0; near = inside.1; inside = inside.2; less = char_left fine there word })
 
 -- `single_char` as a leaf and a step of the cursor
-pub single_char_is : (t : Input) (tokens word : List ℕ) (p : Parser) (m : Buffers) (start size : ℕ) → t.tokens ≡ tokens
+pub single_char_is : (t : Tables) (tokens word : List ℕ) (p : Parser) (m : Buffers) (start size : ℕ) → t.tokens ≡ tokens
     → word ≡ peek_text t.text tokens (cursor_of p.lexer) → start ≡ rest_start tokens (cursor_of p.lexer)
     → size ≡ char_length word → (n : ℕ)
     → single_char (flat n) (source_of t) (pos_of p m)

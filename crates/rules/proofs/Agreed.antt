@@ -5,5 +5,3 @@ pub use Rattle.rules.specs.DroppedCases.{examples as dropped-rows-agree}
 pub use Rattle.rules.specs.PutBackCases.{examples as put-back-agrees}
 pub use Rattle.rules.specs.QuestionCases.{examples as questions-agree}
 pub use Rattle.rules.specs.SheetCases.{examples as sheets-agree}
-pub use Rattle.rules.specs.NamesCases.{lookups as lookups-agree, faults as list-faults-agree}
-pub use Rattle.rules.specs.NamesCases.{refusals as refusals-by_name-agree, runs as runs-by_name-agree}

@@ -74,16 +74,16 @@ none_where right (suc n) from each =
 
 -- ---- one refusal after the other
 -- where nothing is refused, this refusal did not come, and none comes after it
-pub unrefused : (test : Bool) (r : Refusal) (rest : Option Refusal) → cond test (some r) rest ≡ none → (test ≡ false) × (rest ≡ none)
+unrefused : (test : Bool) (r : Refusal) (rest : Option Refusal) → cond test (some r) rest ≡ none → (test ≡ false) × (rest ≡ none)
 unrefused true r rest e = let z : ◌≡◌ {A = ℕ} 0 1 = cc in absurd (omega arith)
 unrefused false r rest e = (refl, e)
 
-pub no_place : (number : ℕ) (place : Option ℕ) (rest : Option Refusal) → at number place rest ≡ none → (place ≡ none) × (rest ≡ none)
+no_place : (number : ℕ) (place : Option ℕ) (rest : Option Refusal) → at number place rest ≡ none → (place ≡ none) × (rest ≡ none)
 no_place number none rest e = (refl, e)
 no_place number (some place) rest e = let z : ◌≡◌ {A = ℕ} 0 1 = cc in absurd (omega arith)
 
 -- a test that is asked only where another holds
-pub only_where : (a b : Bool) → (not a || b) ≡ true → a ≡ true → b ≡ true
+only_where : (a b : Bool) → (not a || b) ≡ true → a ≡ true → b ≡ true
 only_where true b e met = e
 only_where false b e met = absurd (false≢true met)
 
@@ -96,11 +96,11 @@ pub record TokenRight (t : Tables) (i : ℕ) : Type 0 where
   pub utf8 : kind_at t.tokens i ≡ Token.Word → is_utf8 (part t.text (start_at t.tokens i) (length_at t.tokens i)) ≡ true
 
 module _ (t : Tables) (i : ℕ) (e : word_right t i ≡ true) where
-  pub parts : (not (eqb (length_at t.tokens i) 0) ≡ true) × (is_utf8 (part t.text (start_at t.tokens i) (length_at t.tokens i)) ≡ true)
+  parts : (not (eqb (length_at t.tokens i) 0) ≡ true) × (is_utf8 (part t.text (start_at t.tokens i) (length_at t.tokens i)) ≡ true)
   unfolding word_right
   parts = (and-eq-true_iff (not (eqb (length_at t.tokens i) 0)) (is_utf8 (part t.text (start_at t.tokens i) (length_at t.tokens i)))).0 e
 
-  pub filled : 1 ≤ length_at t.tokens i
+  filled : 1 ≤ length_at t.tokens i
   filled = let some = eqb-false (length_at t.tokens i) 0 (not-true (eqb (length_at t.tokens i) 0) parts.0) in omega arith
 
 token-right : (t : Tables) (i : ℕ) → token_right t i ≡ true → TokenRight t i
@@ -134,7 +134,7 @@ pub record WithinLimits (t : Tables) : Type 0 where
   pub shapes : WholeRows Limits.shape_width Limits.shapes t.shapes
   pub states : WholeRows Limits.state_width Limits.states t.states
 
-pub within-limits : (t : Tables) → within_limits t ≡ true → WithinLimits t
+within-limits : (t : Tables) → within_limits t ≡ true → WithinLimits t
 unfolding within_limits
 within-limits t e =
     let text = (and-eq-true_iff (leb (length t.text) Limits.text) _).0 e in

@@ -19,7 +19,7 @@ use Rattle.rules.specs.Outcome.{Out, went, refused}
 use Rattle.rules.specs.Position.{Pos, Source}
 use Rattle.rules.specs.Reading.{parse}
 use Rattle.rules.specs.Rowan.{Green}
-use Rattle.rules.specs.Run.{accepted, over, after_reading, refused_or_read, run}
+use Rattle.rules.specs.Run.{accepted, over, after_reading, afterChecks, run}
 use Rattle.rules.specs.Tree.{Tree, layout}
 use Rattle.rules.proofs.Alike as alike
 use Rattle.rules.proofs.Alike.{FlatRun, RowanRun, Whole, SameRun, both_went, both_refused}
@@ -105,24 +105,24 @@ whole-count count length e = omega arith
 counts : {a b c d : ℕ} → accepted a b ≡ accepted c d → (a ≡ c) × (b ≡ d)
 counts e = (cc, cc)
 
-module _ (source : Source) (tree buffer : List ℕ) (rows count : ℕ) where
+module _ (t : Tables) (tree buffer : List ℕ) (rows count : ℕ) where
   reading : (o : Out (Pos Built Mark))
-      → parse (flat (length tree)) source Flat.empty ≡ o
+      → parse (flat (length tree)) (source_of t) Flat.empty ≡ o
       → (after_reading tree buffer o).answer ≡ accepted rows count
-      → RanExactly source (length tree) rows count (after_reading tree buffer o)
+      → RanExactly t (length tree) rows count (after_reading tree buffer o)
   reading (refused number place) e is = let z : ◌≡◌ {A = ℕ} 0 1 = cc in absurd (omega arith)
   reading (went p) e is =
       let built = p.built in
-      let exact = exactly (length tree) source p e in
-      let whole = (alike.accepted (alike.same-run (length tree) source) e).3 in
+      let exact = exactly (length tree) (source_of t) p e in
+      let whole = (alike.accepted (alike.same-run (length tree) (source_of t)) e).3 in
       let same = counts is in
       let written : rows * Limits.tree_width ≡ length built.tree.tree = rw (← same.0) whole.size in
       let laid = begins built.tree.tree tree (rows * Limits.tree_width) written ∙ exact.laid in
       let size = written ∙ ap (λ (l : List ℕ). length l) exact.laid in
-      let reasoned = dropped-rows source exact.tree 0 in
-      let long = whole-rows source reasoned.rows ∙ ap (λ (l : List ℕ). length l) (sym exact.only) in
+      let reasoned = dropped-rows (source_of t) exact.tree 0 in
+      let long = whole-rows (source_of t) reasoned.rows ∙ ap (λ (l : List ℕ). length l) (sym exact.only) in
       let counted : reasoned.count ≡ count = sym (whole-count reasoned.count (length built.dropped) long) ∙ same.1 in
-      let notes : take (count * Limits.dropped_width) (over built.dropped buffer) ≡ dropped source exact.tree =
+      let notes : take (count * Limits.dropped_width) (over built.dropped buffer) ≡ dropped (source_of t) exact.tree =
       begins built.dropped buffer (count * Limits.dropped_width) (rw (← counted) long) ∙ exact.only in
       record {
         tree = exact.tree;
@@ -134,15 +134,13 @@ module _ (source : Source) (tree buffer : List ℕ) (rows count : ℕ) where
         reasons = rw (notes, ← counted) reasoned.rows;
       }
 
-  -- "In every accepted run": the dropped rows are exactly those that the demand lists, whatever is read and whatever was checked before
-  pub read-exactly : (refusal : Option Refusal)
-      → (refused_or_read refusal source tree buffer).answer ≡ accepted rows count
-      → RanExactly source (length tree) rows count (refused_or_read refusal source tree buffer)
-  read-exactly (some refusal) is = let z : ◌≡◌ {A = ℕ} 0 1 = cc in absurd (omega arith)
-  read-exactly none is = reading (parse (flat (length tree)) source Flat.empty) refl is
+  checked : (o : Option Refusal)
+      → (afterChecks o t tree buffer).answer ≡ accepted rows count
+      → RanExactly t (length tree) rows count (afterChecks o t tree buffer)
+  checked (some refusal) is = let z : ◌≡◌ {A = ℕ} 0 1 = cc in absurd (omega arith)
+  checked none is = reading (parse (flat (length tree)) (source_of t) Flat.empty) refl is
 
--- so of a run by numbers: its dropped rows are exactly those that the demand lists
-pub run-exactly : (t : Tables) (tree buffer : List ℕ) (rows count : ℕ) → (run t tree buffer).answer ≡ accepted rows count
-    → RanExactly (source_of t) (length tree) rows count (run t tree buffer)
-unfolding run
-run-exactly t tree buffer rows count = read-exactly (source_of t) tree buffer rows count (checks t (length buffer))
+  -- "In every accepted run": the dropped rows are exactly those that the demand lists
+  pub run-exactly : (run t tree buffer).answer ≡ accepted rows count → RanExactly t (length tree) rows count (run t tree buffer)
+  unfolding run
+  run-exactly is = checked (checks t (length buffer)) is

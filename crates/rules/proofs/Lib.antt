@@ -47,9 +47,3 @@ pub mod Longest
 pub mod Untied
 pub mod Tokenised
 pub mod TextReturns
-pub mod Names
-pub mod NamedRun
-pub mod Unnumbered
-pub mod NamedChecks
-pub mod NamedFour
-pub mod NamedRuns

@@ -61,7 +61,7 @@ unfolding dropped_lines
 dropped-end dropped count row end = rw (no_more count row end)
 
 -- ---- numbers of a row, as a part of the table
-pub next-number : (l : List ℕ) (a b n : ℕ) → suc a ≡ b → a < length l → part l a (suc n) ≡ get_or l a 0 ∷ part l b n
+next-number : (l : List ℕ) (a b n : ℕ) → suc a ≡ b → a < length l → part l a (suc n) ≡ get_or l a 0 ∷ part l b n
 next-number l a b n e here = rw (← e, drop-cons l a 0 here)
 
 three_numbers : (l : List ℕ) (a b c : ℕ) → suc a ≡ b → suc b ≡ c → c < length l → part l a 3 ≡ get_or l a 0 ∷ get_or l b 0 ∷ get_or l c 0 ∷ []

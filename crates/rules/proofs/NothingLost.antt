@@ -1,6 +1,6 @@
 -- Demand 3's first half, of every accepted run, on the buffers after it and the answer's counts: each token is a leaf, the parts of a split Word, or
--- one dropped row; putting back gives the token texts; so inputs whose texts differ never share what is put together. That each token is told is read
--- off the reading, of any source that is sound where nothing is refused; all else follows from it, of any rows. Assumes nothing.
+-- one dropped row; putting back gives the token texts; so inputs whose texts differ never share what is put together. What the checks and the reading
+-- tell. Assumes nothing.
 use Prim.Native.Nat.{ℕ, ◌/◌, ◌<◌}
 use mathlib.Core.Path.{◌≡◌, refl, sym, ap, ◌∙◌}
 use mathlib.Core.List.{List}
@@ -12,11 +12,11 @@ use Rattle.rules.specs.Checks.{Tables, Refusal, checks, source_of}
 use Rattle.rules.specs.Flat.{Built, Mark, tag_leaf, flat, empty}
 use Rattle.rules.specs.Limits.{tree_width, dropped_width}
 use Rattle.rules.specs.Outcome.{Out, went, refused}
-use Rattle.rules.specs.Position.{Pos, Source}
-use Rattle.rules.specs.PutBack.{tree_rows, dropped_rows, leaves, Stored, stored, put_back, texts_from, token_texts, EachToken, stretch_at, InToken, Rises}
+use Rattle.rules.specs.Position.{Pos}
+use Rattle.rules.specs.PutBack.{tree_rows, dropped_rows, leaves, texts_of, Stored, stored, put_back, texts_from, token_texts, EachToken, stretch_at, InToken, Rises}
 use Rattle.rules.specs.Questions.{tag_at}
 use Rattle.rules.specs.Reading.{parse}
-use Rattle.rules.specs.Run.{accepted, over, after_reading, refused_or_read, run}
+use Rattle.rules.specs.Run.{accepted, over, after_reading, afterChecks, run}
 use Rattle.rules.specs.Tables.{token_count}
 use Rattle.rules.proofs.Checks
 use Rattle.rules.proofs.Fifth.{leaf-inside}
@@ -35,16 +35,14 @@ sound t dropped passed =
       utf8 = λ i there. (passed.token i there).utf8;
     }
 
--- ---- each token
-
 -- of rows in both buffers, with what was there before behind them
-module _ (source : Source) (tree dropped : List ℕ) where
+module _ (t : Tables) (tree dropped : List ℕ) where
   abbrev Told : ℕ → ℕ → List ℕ → List ℕ → Type 0
-  Told rows drops tree dropped = EachToken source.tokens 0 0 (leaves (tree_rows rows tree)) (dropped_rows drops dropped)
+  Told rows drops tree dropped = EachToken t.tokens 0 0 (leaves (tree_rows rows tree)) (dropped_rows drops dropped)
 
   -- all tokens were handed over
   abbrev AllRead : Built → Type 0
-  AllRead b = HasRead source (before (token_count source.tokens)) b
+  AllRead b = HasRead (source_of t) (before (token_count t.tokens)) b
 
   told : (b : Built)
       → AllRead b
@@ -54,7 +52,7 @@ module _ (source : Source) (tree dropped : List ℕ) where
       let count : length b.dropped / dropped_width ≡ length h.ds = omega arith in
       let tree-front = rows_front tree_width b.tree.rows b.tree.tree (drop (length b.tree.tree) tree) h.tied.size in
       let dropped-front = rows_front dropped_width (length h.ds) b.dropped (drop (length b.dropped) dropped) long in
-      rw (count, tree-front, dropped-front, h.tied.leaves, h.tied.dropped) (all_told source refl refl h.reached)
+      rw (count, tree-front, dropped-front, h.tied.leaves, h.tied.dropped) (all_told (source_of t) refl refl h.reached)
 
   after_reading_lem : {rows drops : ℕ} (o : Out (Pos Built Mark))
       → Goes (λ q. AllRead q.built) o
@@ -66,37 +64,22 @@ module _ (source : Source) (tree dropped : List ℕ) where
       rw (same_rows, same-drops) at (told p.built h)
   after_reading_lem (refused number place) h e = let z : ◌≡◌ {A = ℕ} 0 1 = cc in absurd (omega arith)
 
-  -- each token is a leaf, the parts of a split Word, or one dropped row, exactly once, whatever gave the refusal and the source
-  pub tokens-told : {rows drops : ℕ} (refusal : Option Refusal) → (refusal ≡ none → Sound source)
-      → (refused_or_read refusal source tree dropped).answer ≡ accepted rows drops
-      → Told rows drops (refused_or_read refusal source tree dropped).tree (refused_or_read refusal source tree dropped).dropped
-  tokens-told none passes e = after_reading_lem (parse (flat (length tree)) source empty) (rows_read (length tree) source (passes refl)) e
-  tokens-told (some refusal) passes e = let z : ◌≡◌ {A = ℕ} 0 1 = cc in absurd (omega arith)
+  after_checks : {rows drops : ℕ} (o : Option Refusal)
+      → checks t (length dropped) ≡ o
+      → (afterChecks o t tree dropped).answer ≡ accepted rows drops
+      → Told rows drops (afterChecks o t tree dropped).tree (afterChecks o t tree dropped).dropped
+  after_checks none passed e =
+      let tables = sound t (length dropped) (Checks.accepted t (length dropped) passed) in
+      after_reading_lem (parse (flat (length tree)) (source_of t) empty) (rows_read (length tree) (source_of t) tables) e
+  after_checks (some refusal) passed e = let z : ◌≡◌ {A = ℕ} 0 1 = cc in absurd (omega arith)
 
--- ---- what follows, of any rows
-
--- the token texts return from what can be stored: the texts of the leaves are read off the first four numbers
-pub texts_back : (text : List ℕ) (tree : List (List ℕ)) {tokens : List ℕ} {dropped : List (List ℕ)} → EachToken tokens 0 0 (leaves tree) dropped
-    → put_back (stored text tokens tree dropped) ≡ token_texts text tokens
-texts_back text tree {tokens} each =
-    let all = texts_from text tokens in
-    rw (four-texts text tree) (rw sub-zero at (put_back_lem text tokens (λ i l. l) (λ i word l. refl) all (λ i. refl) (λ i n. refl) each))
-
--- what gives back two texts that differ is not the same
-pub apart : {A : Type 0} (back : A → List ℕ) {one other : A} {text text' : List ℕ} → back one ≡ text → back other ≡ text' → (text ≡ text' → ⊥)
-    → one ≡ other
-    → ⊥
-apart back gives gives' differ same = differ (sym gives ∙ ap back same ∙ gives')
-
--- ---- of a run by numbers
+-- ---- the theorems
 
 module _ (t : Tables) (tree dropped : List ℕ) {rows drops : ℕ} (e : (run t tree dropped).answer ≡ accepted rows drops) where
   -- each token is a leaf, the parts of a split Word, or one dropped row, exactly once
   pub each-token : EachToken t.tokens 0 0 (leaves (tree_rows rows (run t tree dropped).tree)) (dropped_rows drops (run t tree dropped).dropped)
   unfolding run
-  each-token =
-      let passes : checks t (length dropped) ≡ none → Sound (source_of t) = λ e. sound t (length dropped) (Checks.accepted t (length dropped) e) in
-      tokens-told (source_of t) tree dropped (checks t (length dropped)) passes e
+  each-token = after_checks t tree dropped (checks t (length dropped)) refl e
 
   -- "a leaf's own token": each leaf lies inside the range of the token that its row names
   pub leaf-token : (row : ℕ)
@@ -113,9 +96,15 @@ module _ (t : Tables) (tree dropped : List ℕ) {rows drops : ℕ} (e : (run t t
   abbrev pub stored_of : Stored
   stored_of = stored t.text t.tokens (tree_rows rows (run t tree dropped).tree) (dropped_rows drops (run t tree dropped).dropped)
 
+  -- the texts of the leaves are read off the first four numbers
+  storedTexts : stored_of.leaf_texts ≡ texts_of t.text (leaves (tree_rows rows (run t tree dropped).tree))
+  storedTexts = four-texts t.text (tree_rows rows (run t tree dropped).tree)
+
   -- "In every accepted run, put the dropped texts back among the leaf texts where the dropped list says: the token texts return, joined in order."
   pub texts_return : put_back stored_of ≡ token_texts t.text t.tokens
-  texts_return = texts_back t.text (tree_rows rows (run t tree dropped).tree) each-token
+  texts_return =
+      let all = texts_from t.text t.tokens in
+      rw storedTexts (rw sub-zero at (put_back_lem t.text t.tokens (λ i l. l) (λ i word l. refl) all (λ i. refl) (λ i n. refl) each-token))
 
 -- "So two accepted inputs whose joined texts differ never share tree, leaf texts and dropped list with its texts."
 pub never_share : (t t' : Tables) (tree dropped tree' dropped' : List ℕ) {rows drops rows' drops' : ℕ}
@@ -123,4 +112,5 @@ pub never_share : (t t' : Tables) (tree dropped tree' dropped' : List ℕ) {rows
     → (token_texts t.text t.tokens ≡ token_texts t'.text t'.tokens → ⊥)
     → stored_of t tree dropped e ≡ stored_of t' tree' dropped' e'
     → ⊥
-never_share t t' tree dropped tree' dropped' e e' = apart put_back (texts_return t tree dropped e) (texts_return t' tree' dropped' e')
+never_share t t' tree dropped tree' dropped' e e' differ same =
+    differ (sym (texts_return t tree dropped e) ∙ ap put_back same ∙ texts_return t' tree' dropped' e')

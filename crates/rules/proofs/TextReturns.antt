@@ -1,9 +1,8 @@
 -- Demand 3 for a formula's text: leaf texts and dropped texts, each in its token's source range, put back give the text itself, byte for byte. Each
--- token is put back whole (`put_back_lem`), and the source ranges of the tokens tile the text (`tiled`): so of any rows in which each token is told.
--- Assumes nothing.
-use Prim.Native.Nat.{ℕ, zero, suc, ◌+◌}
+-- token is put back whole (`put_back_lem`), and the source ranges of the tokens tile the text (`tiled`). Assumes nothing.
+use Prim.Native.Nat.{ℕ}
 use Prim.Native.String.{String}
-use mathlib.Core.Path.{◌≡◌, refl, ap₂, ◌∙◌}
+use mathlib.Core.Path.{◌≡◌, refl, sym, ap, ap₂, ◌∙◌}
 use mathlib.Core.List.{List, [], map-map, append-nil}
 use native.Mathlib.Nat.{sub-zero}
 use lib.ListN.{replicate}
@@ -13,58 +12,39 @@ use Rattle.rules.specs.Computed.{the_run}
 use Rattle.rules.specs.FormulaText.{in_source, Kept, kept, formula_text}
 use Rattle.rules.specs.Notation.{bytes}
 use Rattle.rules.specs.Patterns
-use Rattle.rules.specs.PutBack.{tree_rows, dropped_rows, leaves, Stored, stored, back_from, EachToken}
+use Rattle.rules.specs.PutBack.{tree_rows, dropped_rows, leaves, Stored, stored, back_from}
 use Rattle.rules.specs.Run.{Answer, accepted, run}
 use Rattle.rules.specs.Tables.{token_count, kind_at}
 use Rattle.rules.specs.Token
 use Rattle.rules.specs.Tokeniser
 use Rattle.rules.specs.Tokeniser.{sources_from, token_rows}
-use Rattle.rules.proofs.NothingLost.{apart, each-token}
+use Rattle.rules.proofs.NothingLost.{each-token}
 use Rattle.rules.proofs.PutBack.{put_back_lem}
 use Rattle.rules.proofs.Tiled.{tiled}
-use Rattle.rules.proofs.Unnumbered.{SameRows, equal_rows}
 
--- source texts don't tell shape numbers
-sources_same : (text : List ℕ) {tokens tokens' : List ℕ} → SameRows tokens tokens' → (i n : ℕ)
-    → sources_from text tokens i n ≡ sources_from text tokens' i n
-sources_same text rows i zero = refl
-sources_same text rows i (suc n) = rw (rows.kind i, rows.start i, rows.length i, sources_same text rows (i + 1) n)
-
--- ---- any rows in which each token is a leaf, the parts of a split Word, or one dropped row
-module _ (text : List ℕ) (tree : List (List ℕ)) {tokens : List ℕ} {dropped : List (List ℕ)} (each : EachToken tokens 0 0 (leaves tree) dropped) where
-  abbrev around : ℕ → List ℕ → List ℕ
-  around i text = in_source (kind_at tokens i, text)
-
-  -- nothing stands around a Word
-  bare : (i : ℕ) → kind_at tokens i ≡ Token.Word → (l : List ℕ) → around i l ≡ l
-  bare i word l = rw word (append-nil l)
-
-  -- whatever the tokens are, their source texts return
-  pub sources_back : formula_text (kept text tokens tree dropped) ≡ sources_from text tokens 0 (token_count tokens)
-  sources_back =
-      let all = sources_from text tokens in
-      ap₂ (back_from 0) (map-map in_source _ (leaves tree)) (map-map _ _ dropped)
-      ∙ (rw sub-zero at (put_back_lem text tokens around bare all (λ i. refl) (λ i n. refl) each))
-
-  -- and those of the tokens that the text was cut into are the text, whatever shape numbers were set in their rows since
-  pub text-back : SameRows tokens (token_rows text) → formula_text (kept text tokens tree dropped) ≡ text
-  text-back are = sources_back ∙ sources_same text are 0 (token_count tokens) ∙ rw are.count (rw sub-zero at (tiled text).texts)
-
--- ---- of a run by numbers
 module _ (t : Tables) (tree dropped : List ℕ) {rows drops : ℕ} (e : (run t tree dropped).answer ≡ accepted rows drops) where
   abbrev pub kept_of : Kept
   kept_of = kept t.text t.tokens (tree_rows rows (run t tree dropped).tree) (dropped_rows drops (run t tree dropped).dropped)
 
-  -- the source texts of its tokens return
+  abbrev around : ℕ → List ℕ → List ℕ
+  around i text = in_source (kind_at t.tokens i, text)
+
+  -- nothing stands around a Word
+  bare : (i : ℕ) → kind_at t.tokens i ≡ Token.Word → (l : List ℕ) → around i l ≡ l
+  bare i word l = rw word (append-nil l)
+
+  -- whatever the tokens are, their source texts return
   pub sources_return : formula_text kept_of ≡ sources_from t.text t.tokens 0 (token_count t.tokens)
-  sources_return = sources_back t.text (tree_rows rows (run t tree dropped).tree) (each-token t tree dropped e)
+  sources_return =
+      let tree_rows = tree_rows rows (run t tree dropped).tree in
+      let dropped-rows = dropped_rows drops (run t tree dropped).dropped in
+      let all = sources_from t.text t.tokens in
+      ap₂ (back_from 0) (map-map in_source _ (leaves tree_rows)) (map-map _ _ dropped-rows)
+      ∙ (rw sub-zero at (put_back_lem t.text t.tokens around bare all (λ i. refl) (λ i n. refl) (each-token t tree dropped e)))
 
-  -- and the text that they were cut from, also where a caller has set shape numbers in their rows
-  pub text-returns_shaped : SameRows t.tokens (token_rows t.text) → formula_text kept_of ≡ t.text
-  text-returns_shaped = text-back t.text (tree_rows rows (run t tree dropped).tree) (each-token t tree dropped e)
-
+  -- and those of the tokens that the text was cut into are the text
   pub text-returns : t.tokens ≡ token_rows t.text → formula_text kept_of ≡ t.text
-  text-returns are = text-returns_shaped (equal_rows are)
+  text-returns are = sources_return ∙ rw are (rw sub-zero at (tiled t.text).texts)
 
 -- so two texts that differ never share it
 pub never_share_kept : (t t' : Tables) (tree dropped tree' dropped' : List ℕ) {rows drops rows' drops' : ℕ}
@@ -74,8 +54,8 @@ pub never_share_kept : (t t' : Tables) (tree dropped tree' dropped' : List ℕ) 
     → (t.text ≡ t'.text → ⊥)
     → kept_of t tree dropped e ≡ kept_of t' tree' dropped' e'
     → ⊥
-never_share_kept t t' tree dropped tree' dropped' e e' are are' =
-    apart formula_text (text-returns t tree dropped e are) (text-returns t' tree' dropped' e' are')
+never_share_kept t t' tree dropped tree' dropped' e e' are are' differ same =
+    differ (sym (text-returns t tree dropped e are) ∙ ap formula_text same ∙ text-returns t' tree' dropped' e' are')
 
 -- ---- the kinds are needed
 

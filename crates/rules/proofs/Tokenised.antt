@@ -1,8 +1,8 @@
--- A run over what a text of ASCII bytes was cut into is never refused 3: the checks find no such row, and while reading only 5 to 8 come, whatever is
--- read. What `tokenise` answered tells that the text is such and where its rows stand. Assumes nothing.
+-- A run over what a text of ASCII bytes was cut into is never refused 3: the checks find no such row, and while reading only 5 to 8 come. What
+-- `tokenise` answered tells that the text is such and where its rows stand. Assumes nothing.
 use Prim.Native.Nat.{ℕ, ◌+◌, ◌*◌, ◌≤◌, ◌<◌}
 use mathlib.Core.Path.{◌≡◌, refl, ap, ◌∙◌}
-use mathlib.Core.Bool.{Bool, not, cond, and-false}
+use mathlib.Core.Bool.{not, and-false}
 use mathlib.Core.List.{List}
 use mathlib.Core.Option.{Option, none, some}
 use native.Mathlib.Omega.{arith}
@@ -10,13 +10,13 @@ use lib.Dec.{leb, ltb}
 use lib.ListN.{length, get_or, take, drop}
 use lib.Seq.{take_at}
 use borrow.Author.Tests.{leb-true, lt-leb}
-use Rattle.rules.specs.Checks.{Tables, Refusal, shape_count, state_count, first_bad, within_limits, shape_or_state_right, at, checks, source_of}
+use Rattle.rules.specs.Checks.{Tables, Refusal, shape_count, state_count, first_bad, within_limits, token_right, shape_or_state_right, at, checks, source_of}
 use Rattle.rules.specs.Flat.{Built, Mark, flat, empty}
 use Rattle.rules.specs.Limits
 use Rattle.rules.specs.Outcome.{Out, went, refused}
-use Rattle.rules.specs.Position.{Pos, Source}
+use Rattle.rules.specs.Position.{Pos}
 use Rattle.rules.specs.Reading.{parse}
-use Rattle.rules.specs.Run.{Answer, accepted, refused_at, after_reading, refused_or_read, run}
+use Rattle.rules.specs.Run.{Answer, accepted, refused_at, after_reading, afterChecks, run}
 use Rattle.rules.specs.Tables.{token_count}
 use Rattle.rules.specs.Tokeniser as tokeniser
 use Rattle.rules.specs.Tokeniser.{Tokenised, written, not_ascii, is_ascii, tokens_of, token_rows, judged, tokenise, fits}
@@ -87,50 +87,35 @@ abbrev checked : Option Refusal → ℕ
 checked none = 0
 checked (some refusal) = refusal.0
 
--- a number that is not 3
-abbrev other : ℕ → Type 0
-other number = number ≡ 3 → ⊥
+module _ (t : Tables) (tree dropped : List ℕ) where
+  abbrev other : ℕ → Type 0
+  other number = number ≡ 3 → ⊥
 
--- ---- the checks, by numbers or by names
-abbrev few : Tables → ℕ → Bool
-few t room = ltb room (token_count t.tokens * Limits.dropped_width)
+  -- where no token row is bad, the checks don't refuse 3
+  no_row : first_bad (token_right t) (token_count t.tokens) 0 ≡ none → other (checked (checks t (length dropped)))
+  unfolding checks
+  no_row right =
+      let bad = first_bad (shape_or_state_right t) (shape_count t + state_count t) 0 in
+      either (not (within_limits t)) (λ limits. rw limits (λ e. omega (arith, e)))
+      (λ limits.
+      either (ltb (length dropped) (token_count t.tokens * Limits.dropped_width)) (λ room. rw (limits, room) (λ e. omega (arith, e)))
+      (λ room. rw (limits, room, right) (last bad)))
+    where
+      last : (bad : Option ℕ) → other (checked (at 4 bad none))
+      last none e = omega (arith, e)
+      last (some place) e = omega (arith, e)
 
--- a refusal with another number, and none with 3 behind it
-pub at_other : (number : ℕ) (place : Option ℕ) (rest : Option Refusal) → other number → other (checked rest) → other (checked (at number place rest))
-at_other number none rest differs free = free
-at_other number (some place) rest differs free = differs
-
--- where no token row is bad, the checks don't refuse 3: neither 1 nor 2 is 3, nor is what they refuse behind it
-pub behind_3 : (t : Tables) (room : ℕ) {token : Option ℕ} (rest : Option Refusal) → token ≡ none → other (checked rest)
-    → other (checked (cond (not (within_limits t)) (some (1, 0)) (cond (few t room) (some (2, 0)) (at 3 token rest))))
-behind_3 t room rest right free =
-    either (not (within_limits t)) (λ limits. rw limits (λ e. omega (arith, e)))
-    (λ limits. either (few t room) (λ short. rw (limits, short) (λ e. omega (arith, e))) (λ enough. rw (limits, enough, right) free))
-
--- ---- whatever gave the refusal and the source
-module _ (source : Source) (tree dropped : List ℕ) where
   reading : (o : Out (Pos Built Mark)) → AnyKnown o → other (number_of (after_reading tree dropped o).answer)
   reading (went p) known e = omega (arith, e)
   reading (refused number place) known e = let low = known.low in omega (arith, low, e)
 
-  not_3 : (refusal : Option Refusal) → other (checked refusal) → other (number_of (refused_or_read refusal source tree dropped).answer)
-  not_3 none free = reading (parse (flat (length tree)) source empty) (known-refusals (length tree) source)
-  not_3 (some refusal) free = free
+  checking : (o : Option Refusal) → other (checked o) → other (number_of (afterChecks o t tree dropped).answer)
+  checking none free = reading (parse (flat (length tree)) (source_of t) empty) (known-refusals (length tree) (source_of t))
+  checking (some refusal) free = free
 
-  -- only the checks refuse 3
-  pub checks-alone : {place : ℕ} (refusal : Option Refusal) → other (checked refusal)
-      → (refused_or_read refusal source tree dropped).answer ≡ refused_at 3 place
-      → ⊥
-  checks-alone refusal free e = not_3 refusal free (ap number_of e)
-
--- ---- of a run by numbers
-module _ (t : Tables) (tree dropped : List ℕ) where
   no_3 : {place : ℕ} → AllUnder 128 t.text → t.tokens ≡ token_rows t.text → (run t tree dropped).answer ≡ refused_at 3 place → ⊥
-  unfolding run checks
-  no_3 ascii are =
-      let bad = first_bad (shape_or_state_right t) (shape_count t + state_count t) 0 in
-      let four = at_other 4 bad none (λ e. omega (arith, e)) (λ e. omega (arith, e)) in
-      checks-alone (source_of t) tree dropped (checks t (length dropped)) (behind_3 t (length dropped) (at 4 bad none) (rows_right t ascii are) four)
+  unfolding run
+  no_3 ascii are e = checking (checks t (length dropped)) (no_row (rows_right t ascii are)) (ap number_of e)
 
   -- "what it gives passes rule 3": over the rows that were written of a text no run is refused 3, whatever shapes and states there are
   pub never_refused_3 :

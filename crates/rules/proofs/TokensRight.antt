@@ -2,29 +2,25 @@
 -- least one byte, which is a character. Assumes nothing.
 use Prim.Native.Nat.{ℕ, suc, ◌+◌, ◌-◌, ◌≤◌, ◌<◌}
 use mathlib.Core.Path.{◌≡◌, refl, sym, ap, subst, ◌∙◌}
-use mathlib.Core.Bool.{Bool, true, false, not, ◌&&◌, ◌||◌, false≢true}
+use mathlib.Core.Bool.{true}
 use mathlib.Core.List.{List, ◌∷◌}
 use mathlib.Core.Option.{none}
 use native.Mathlib.Omega.{arith}
-use lib.Dec.{eqb, leb, ltb}
+use lib.Dec.{eqb, ltb}
 use lib.ListN.{length, get_or, drop}
 use borrow.Author.Tests.{eqb-true, eqb-false, lt-ltb, le-leb, ltb-true, ne_eqb}
 use Rattle.rules.specs.Characters.{char_length, is_utf8}
 use Rattle.rules.specs.Checks.{Tables, shape_count, first_bad, word_right, token_right}
 use Rattle.rules.specs.Commands.{kind_of}
 use Rattle.rules.specs.Limits
-use Rattle.rules.specs.NamedRun.{Named, unshaped, row_right}
 use Rattle.rules.specs.Tables.{token_count, kind_at, start_at, length_at, shape_at}
 use Rattle.rules.specs.Token
 use Rattle.rules.specs.Tokeniser.{Lexeme, plain, environment, lexeme, token_rows}
 use Rattle.rules.proofs.AllUnder.{AllUnder, nothing, under, under_take, under_drop}
 use Rattle.rules.proofs.Characters.{either, utf8_rest, utf8_nothing}
-use Rattle.rules.proofs.Checks.{all_right, none_where}
-use Rattle.rules.proofs.NamedRun.{by, same_row}
 use Rattle.rules.proofs.LexemeSizes.{word_of, size_of, word_kind, name_after, Front, matched, named, braced, fronts, Sized}
 use Rattle.rules.proofs.Tiled.{Stand, kind_is, start_is, length_is, shape_is, rest_is, walk}
 use Rattle.rules.proofs.TokensOf.{first, size_at}
-use Rattle.rules.proofs.Unnumbered.{SameRows}
 use Rattle.rules.proofs.Spellings.{kind_passes, other_kind}
 
 -- ---- ASCII bytes are characters
@@ -125,26 +121,3 @@ rows_right t ascii are =
     let whole : token_count t.tokens - 0 ≡ token_count t.tokens = omega arith in
     ap (λ (n : ℕ). first_bad (token_right t) n 0) (sym whole)
     ∙ walk t.text t.tokens (NoneFrom t ascii) (none_more t ascii) (one_more t ascii) are
-
--- rule 3 of a run by names asks the same of a row but for its shape number
-but_one : (kind inside shape word : Bool) → (kind && (inside && (shape && word))) ≡ true → (kind && (inside && word)) ≡ true
-but_one true true true word e = e
-but_one true true false word e = absurd (false≢true e)
-but_one true false shape word e = e
-but_one false inside shape word e = e
-
-asks_less : (n : Named) (i : ℕ) → token_right (unshaped n) i ≡ true → row_right n i ≡ true
-unfolding token_right row_right
-asks_less n i =
-    but_one (ltb (kind_at n.tokens i) Limits.kinds) (leb (start_at n.tokens i + length_at n.tokens i) (length n.text))
-    (leb (shape_at n.tokens i) 0) (not (eqb (kind_at n.tokens i) Token.Word) || word_right (unshaped n) i)
-
--- so it never comes either of what a text of ASCII bytes is cut into, whatever shape numbers were set in the rows since
-pub rows_right_by_name : (n : Named) → AllUnder 128 n.text → SameRows n.tokens (token_rows n.text)
-    → first_bad (row_right n) (token_count n.tokens) 0 ≡ none
-rows_right_by_name n ascii are =
-    let cut = by n.text (token_rows n.text) n.states n.house n.default in
-    let all = all_right (token_right (unshaped cut)) (token_count cut.tokens) (rows_right (unshaped cut) ascii refl) in
-    let same = same_row n.text n.tokens cut.tokens n.states are n.house n.default in
-    none_where (row_right n) (token_count n.tokens) 0
-    (λ i low high. ap (λ (right : ℕ → Bool). right i) same ∙ asks_less cut i (all i (omega (arith, are.count, high))))

@@ -1,5 +1,5 @@
--- All definitions that a run computes by, under one name, all that the questions do, and all that lists of names and runs by them do besides: a
--- theorem that antt computes says `unfolding the_run`, `unfolding the_questions` or `unfolding the_names`, which opens each of them.
+-- All definitions that a run computes by, under one name, and all that the questions do: a theorem that antt computes says `unfolding the_run`, or
+-- `unfolding the_questions`, which opens each of them.
 use Rattle.rules.specs.Characters
 use Rattle.rules.specs.Checks
 use Rattle.rules.specs.Cursor
@@ -7,8 +7,6 @@ use Rattle.rules.specs.Flat
 use Rattle.rules.specs.Items
 use Rattle.rules.specs.Kinds
 use Rattle.rules.specs.Matcher
-use Rattle.rules.specs.NamedRun
-use Rattle.rules.specs.Names
 use Rattle.rules.specs.Position
 use Rattle.rules.specs.Questions
 use Rattle.rules.specs.Reading
@@ -23,7 +21,3 @@ the_run = tt
 unfoldable pub the_questions : Unit {0}
 unfolding Questions.tagged Questions.range_at Questions.is_leaf Questions.leaf_range Questions.leaf_text Questions.open_after Questions.balance Questions.formula Questions.first_from Questions.last_before Questions.first_token Questions.last_token Questions.same Questions.is_delimiter Questions.one_of Questions.between Questions.matched Questions.whole_in
 the_questions = tt
-
-unfoldable pub the_names : Unit {0}
-unfolding Questions.same Names.pair_at Names.whole Names.entries_from Names.known Names.entry_right Names.list_fault Names.bears Names.first_named Names.lookup Names.shape_of_name NamedRun.name_of NamedRun.shape_by_name NamedRun.row_right NamedRun.glob_right NamedRun.glob_or_state_right NamedRun.checks_by_name NamedRun.run_by_name
-the_names = tt

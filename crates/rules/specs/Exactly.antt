@@ -4,6 +4,7 @@
 -- and that body's closing \fi if it has one."
 use Rattle.std.specs.Prelude.{ℕ, zero, suc, ◌+◌, ◌*◌, ◌-◌, ◌≡◌, Bool, true, not, cond, ◌&&◌, ◌||◌, List, [], ◌∷◌, ◌++◌, map, eqb, length, take}
 use Rattle.std.proofs.Math.Option.{Option, none, some}
+use Rattle.rules.specs.Checks.{Tables, source_of}
 use Rattle.rules.specs.Flat.{four, dropped_row, reason_trivia, reason_opener, reason_closer}
 use Rattle.rules.specs.Items.{class_command, of_class}
 use Rattle.rules.specs.Limits
@@ -125,14 +126,14 @@ pub record TreeOf (room : ℕ) (source : Source) (t : Tree) : Type 0 where
   pub is : end.built.children ≡ t ∷ []
 
 -- an accepted run of so many rows and dropped rows, with a tree buffer of so many numbers: what both buffers begin with
-pub record RanExactly (source : Source) (room rows count : ℕ) (r : Ran) : Type 0 where
+pub record RanExactly (t : Tables) (room rows count : ℕ) (r : Ran) : Type 0 where
   pub tree : Tree
-  pub of : TreeOf room source tree
+  pub of : TreeOf room (source_of t) tree
   pub laid : take (rows * Limits.tree_width) r.tree ≡ layout tree
   -- "row counts .. are the tree's own"
   pub size : rows * Limits.tree_width ≡ length (layout tree)
   -- "Demands 2 and 3 read the first four numbers as before."
   pub base : map four (tree_rows rows r.tree) ≡ base_rows tree
-  pub only : take (count * Limits.dropped_width) r.dropped ≡ dropped source tree
+  pub only : take (count * Limits.dropped_width) r.dropped ≡ dropped (source_of t) tree
   -- and the reason of each fits its token
-  pub reasons : Reasoned source count (take (count * Limits.dropped_width) r.dropped)
+  pub reasons : Reasoned (source_of t) count (take (count * Limits.dropped_width) r.dropped)

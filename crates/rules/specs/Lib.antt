@@ -37,6 +37,3 @@ pub mod Commands
 pub mod Tokeniser
 pub mod FormulaText
 pub mod TokeniserCases
-pub mod Names
-pub mod NamedRun
-pub mod NamesCases

@@ -5,7 +5,7 @@ use Rattle.rules.specs.Checks.{Tables, Refusal, checks, source_of}
 use Rattle.rules.specs.Flat.{Built, Mark, flat, empty}
 use Rattle.rules.specs.Limits
 use Rattle.rules.specs.Outcome.{Out, went, refused}
-use Rattle.rules.specs.Position.{Pos, Source}
+use Rattle.rules.specs.Position.{Pos}
 use Rattle.rules.specs.Reading.{parse}
 
 -- "Success gives both row counts"; a refusal its number and its place
@@ -34,10 +34,10 @@ after_reading tree dropped (went p) =
 after_reading tree dropped (refused number place) =
     record { answer = refused_at number place; tree = replicate (length tree) 0; dropped = replicate (length dropped) 0 }
 
--- "1 to 4 are checked in that order before reading, and write nothing.": what is read is read where nothing is refused before
-abbrev pub refused_or_read : Option Refusal → Source → List ℕ → List ℕ → Ran
-refused_or_read (some refusal) source tree dropped = record { answer = refused_at refusal.0 refusal.1; tree = tree; dropped = dropped }
-refused_or_read none source tree dropped = after_reading tree dropped (parse (flat (length tree)) source empty)
+-- "1 to 4 are checked in that order before reading, and write nothing."
+abbrev pub afterChecks : Option Refusal → Tables → List ℕ → List ℕ → Ran
+afterChecks (some refusal) t tree dropped = record { answer = refused_at refusal.0 refusal.1; tree = tree; dropped = dropped }
+afterChecks none t tree dropped = after_reading tree dropped (parse (flat (length tree)) (source_of t) empty)
 
 unfoldable pub run : Tables → List ℕ → List ℕ → Ran
-run t tree dropped = refused_or_read (checks t (length dropped)) (source_of t) tree dropped
+run t tree dropped = afterChecks (checks t (length dropped)) t tree dropped

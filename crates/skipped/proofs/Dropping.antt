@@ -7,7 +7,7 @@ use lib.ListN.{length, length-append, length-take, length-drop}
 use Rattle.rules.specs.Limits.{dropped_width}
 use Rattle.rules.specs.Outcome.{went}
 use Rattle.rules.specs.Flat.{flat, dropped_row}
-use Rattle.syntax.specs.Input.{Input, source_of}
+use Rattle.rules.specs.Checks.{Tables, source_of}
 use Rattle.rules.specs.Routines.{drop_next}
 use Rattle.rules.specs.Tables.{token_count}
 use Rattle.lexer.proofs.Laws.{eaten-fine, left-eaten}
@@ -21,7 +21,7 @@ use Rattle.state.proofs.Left.{remains}
 use Rattle.state.proofs.Walk.{Call, passing}
 
 -- there is room for its row
-pub row_free : {t : Input} {p : Parser} {m : Buffers} → Ready t p m → p.lexer.token < token_count t.tokens → RowFree p m.dropped
+pub row_free : {t : Tables} {p : Parser} {m : Buffers} → Ready t p m → p.lexer.token < token_count t.tokens → RowFree p m.dropped
 row_free ready there =
     let s = ready.steady in
     let few = s.good.few in
@@ -30,7 +30,7 @@ row_free ready there =
     let notes = s.notes in
     record { room = omega arith; token = omega arith; leaves = omega arith }
 
-module _ {t : Input} {reason : ℕ} {p q : Parser} {tree notes after : List ℕ} (done : Dropped reason p notes q after)
+module _ {t : Tables} {reason : ℕ} {p q : Parser} {tree notes after : List ℕ} (done : Dropped reason p notes q after)
     (ready : Ready t p (buffers tree notes)) (there : p.lexer.token < token_count t.tokens) where
   dropped-is : (n : ℕ) → drop_next (flat n) (source_of t) reason (pos_of p (buffers tree notes)) ≡ went (pos_of q (buffers tree after))
   unfolding drop_next
@@ -48,7 +48,7 @@ module _ {t : Input} {reason : ℕ} {p q : Parser} {tree notes after : List ℕ}
       remains ready (passing refl rest refl long (omega arith)) (eaten-fine s.fine) (omega arith) (omega arith) s.fits refl refl refl refl
 
 -- the step of a walk
-pub drops : {t : Input} {reason : ℕ} {p q : Parser} {tree notes after : List ℕ} {lift : ℕ} → Dropped reason p notes q after
+pub drops : {t : Tables} {reason : ℕ} {p q : Parser} {tree notes after : List ℕ} {lift : ℕ} → Dropped reason p notes q after
     → p.lexer.token < token_count t.tokens
     → Call t (λ n d. drop_next (flat n) (source_of t) reason) lift (λ u. Left t 1 p (buffers tree notes) u (buffers tree after))
     p (buffers tree notes) (Went q) (buffers tree after)

@@ -9,7 +9,7 @@ use lib.Dec.{eqb}
 use lib.ListN.{length}
 use Rattle.rules.specs.Outcome.{bind}
 use Rattle.rules.specs.Flat.{flat, reason_closer}
-use Rattle.syntax.specs.Input.{Input, source_of}
+use Rattle.rules.specs.Checks.{Tables, source_of}
 use Rattle.rules.specs.Cursor.{peek, left}
 use Rattle.rules.specs.Items.{is_if}
 use Rattle.rules.specs.Position.{asked}
@@ -49,18 +49,18 @@ abbrev pub skipping : RuleOf
 skipping s n q = eat_body_of_ifs (flat n) s (left s.tokens q.lexer) 0 q
 
 -- the tables with these rows
-abbrev Sees : List ℕ → Input → Type 0
+abbrev Sees : List ℕ → Tables → Type 0
 Sees tokens t = t.tokens ≡ tokens
 
 -- what is left of the loop at a nesting, with so many turns
-abbrev more : Input → ℕ → ℕ → Rule
+abbrev more : Tables → ℕ → ℕ → Rule
 more t nested fuel n d = eat_body_of_ifs (flat n) (source_of t) fuel nested
 
 -- the walk so far, from p and `tree` to q and `after`, no deeper nested than was read: for all tables that agree
 pub record Skipping (tokens : List ℕ) (p : Parser) (tree notes : List ℕ) (nested : ℕ) (q : Parser) (after : List ℕ) : Type 0 where
-  pub far : (t : Input) → Sees tokens t → Ready t p (buffers tree notes)
+  pub far : (t : Tables) → Sees tokens t → Ready t p (buffers tree notes)
       → Far t (λ n d. skipping (source_of t) n) (more t nested) p (buffers tree notes) q (buffers after notes)
-  pub shallow : (t : Input) → Sees tokens t → Ready t p (buffers tree notes) → nested + left_of t q ≤ left_of t p
+  pub shallow : (t : Tables) → Sees tokens t → Ready t p (buffers tree notes) → nested + left_of t q ≤ left_of t p
 
 pub skipping_begins : {tokens : List ℕ} {p : Parser} {tree notes : List ℕ} → Skipping tokens p tree notes 0 p tree
 skipping_begins = record { far = λ t seen ready. far_begins ready (λ n d. refl); shallow = λ t seen ready. omega arith }
@@ -95,7 +95,7 @@ module _ {tokens : List ℕ} {p : Parser} {tree notes : List ℕ} {nested : ℕ}
           (omega arith, rw is is_in)
 
       -- one turn of it: a token is eaten, and then it goes on
-      turn_is : (t : Input) → Sees tokens t → (fuel n d : ℕ)
+      turn_is : (t : Tables) → Sees tokens t → (fuel n d : ℕ)
           → more t nested (suc fuel) n d (pos_of q (buffers after notes))
           ≡ bind (eat (flat n) (source_of t) (pos_of q (buffers after notes))) (more t (nested_behind nested kind) fuel n d)
       unfolding eat_body_of_ifs
@@ -104,7 +104,7 @@ module _ {tokens : List ℕ} {p : Parser} {tree notes : List ℕ} {nested : ℕ}
           rw next (of_body (eqb EndIf kind) (eqb nested 0) (is_if kind) nested _
           (λ deep. bind (eat (flat n) (source_of t) (pos_of q (buffers after notes))) (more t deep fuel n d)) is_in)
 
-      turn : (t : Input) → Sees tokens t → Ready t p (buffers tree notes)
+      turn : (t : Tables) → Sees tokens t → Ready t p (buffers tree notes)
           → OneTurn t (λ n d. skipping (source_of t) n) (more t (nested_behind nested kind)) p (buffers tree notes) q (buffers after notes)
       turn t seen ready = one-turn (more t nested) (more t (nested_behind nested kind)) (rw seen skipping_there) (turn_is t seen) (e.far t seen ready)
 
@@ -140,7 +140,7 @@ module _ {tokens : List ℕ} {p : Parser} {tree notes : List ℕ} {nested : ℕ}
       not_in : in_body nested (kind_at tokens q.lexer.token) ≡ false
       not_in = rw (peek-some tokens (cursor_of q.lexer) there) at (sym told ∙ no)
 
-      closed : (t : Input) → Sees tokens t → (fuel : ℕ) → left_of t q ≤ fuel → Ready t q (buffers after notes) → (n d : ℕ)
+      closed : (t : Tables) → Sees tokens t → (fuel : ℕ) → left_of t q ≤ fuel → Ready t q (buffers after notes) → (n d : ℕ)
           → line (more t nested fuel ∷ []) n d (pos_of q (buffers after notes))
           ≡ line ((λ n d. drop_next (flat n) (source_of t) reason_closer) ∷ []) n d (pos_of q (buffers after notes))
       unfolding eat_body_of_ifs line
@@ -162,7 +162,7 @@ module _ {tokens : List ℕ} {p : Parser} {tree notes : List ℕ} {nested : ℕ}
 
   -- no token is left
   module _ (none_left : token_count tokens ≤ q.lexer.token) where
-    ended : (t : Input) → Sees tokens t → (fuel n d : ℕ)
+    ended : (t : Tables) → Sees tokens t → (fuel n d : ℕ)
         → line (more t nested fuel ∷ []) n d (pos_of q (buffers after notes)) ≡ line [] n d (pos_of q (buffers after notes))
     unfolding eat_body_of_ifs line
     ended t seen zero n d = refl

@@ -9,7 +9,7 @@ use Rattle.rules.specs.Limits.{tokens, tree_width}
 use Rattle.rules.specs.Outcome.{Out, went, bind}
 use Rattle.rules.specs.Flat as flat
 use Rattle.rules.specs.Position as spec
-use Rattle.syntax.specs.Input.{Input}
+use Rattle.rules.specs.Checks.{Tables}
 use Rattle.rules.specs.Tables.{token_count}
 use Rattle.lexer.specs.Fine.{Fine}
 use Rattle.lexer.specs.Reading.{cursor_of}
@@ -29,7 +29,7 @@ use Rattle.state.proofs.Walk.{passing}
 
 -- ---- a token in 32 bits
 
-pub few_tokens : {t : Input} {p : Parser} {m : Buffers} → Steady t p m → p.lexer.token ≤ tokens
+pub few_tokens : {t : Tables} {p : Parser} {m : Buffers} → Steady t p m → p.lexer.token ≤ tokens
 few_tokens s =
     let token = s.token in
     let few = s.good.few in
@@ -51,7 +51,7 @@ pub mark_more : (m : KeptMark) (b u : GreenNodeBuilder) → b.rows ≤ u.rows �
 mark_more m b u more ok = record { children = ok.children; row = omega arith }
 
 -- the same list, with what a step passed: its marks stay good, and no more is to be written
-pub steady_more : {t : Input} {gain : ℕ} {p : Parser} {m : Buffers} {q : Parser} {v : Buffers} → Steady t p m → Passed t gain p m q v
+pub steady_more : {t : Tables} {gain : ℕ} {p : Parser} {m : Buffers} {q : Parser} {v : Buffers} → Steady t p m → Passed t gain p m q v
     → q.list ≡ p.list → Fine t.text t.tokens (cursor_of q.lexer) → q.lexer.token ≤ token_count t.tokens → q.dropped ≤ q.lexer.token
     → told.Fits q.builder v.tree → Steady t q v
 steady_more {p = p} {q = q} s passed list fine inside few fits =
@@ -93,12 +93,12 @@ module _ (p : Parser) (t v notes : List ℕ) where
   built_told {Q} {r} {x} rule o e is same f =
       rw e (record { is = same ∙ outcome o x is; gone = goes Q x f })
 
-  pub on_the_way : {tables : Input} (u : GreenNodeBuilder) → length v ≡ length t → drop (u.rows * tree_width) v ≡ drop (u.rows * tree_width) t
+  pub on_the_way : {tables : Tables} (u : GreenNodeBuilder) → length v ≡ length t → drop (u.rows * tree_width) v ≡ drop (u.rows * tree_width) t
       → p.builder.rows ≤ u.rows → u.leaves ≡ p.builder.leaves
       → Passed tables 0 p before (rebuilt p u) after
   on_the_way u long rest more leaves = passing rest refl long refl (omega arith)
 
-  pub begun : {tables : Input} (u : GreenNodeBuilder) → length v ≡ length t → Steady tables p before → facts.Opens p.builder t u v
+  pub begun : {tables : Tables} (u : GreenNodeBuilder) → length v ≡ length t → Steady tables p before → facts.Opens p.builder t u v
       → Begun tables p before (rebuilt p u) after
   begun u long s f =
       let rows = f.rows in
@@ -112,7 +112,7 @@ module _ (p : Parser) (t v notes : List ℕ) where
         lexer = refl;
       }
 
-  pub ended : {tables : Input} (u : GreenNodeBuilder) (frame : flat.Frame) → length v ≡ length t → Steady tables p before
+  pub ended : {tables : Tables} (u : GreenNodeBuilder) (frame : flat.Frame) → length v ≡ length t → Steady tables p before
       → facts.Closes p.builder t frame u v
       → Ended tables frame.first frame.node p before (rebuilt p u) after
   ended u frame long s f =

@@ -6,7 +6,7 @@ use Prim.Native.Nat.{ℕ, zero, suc, ◌+◌, ◌≤◌, ◌<◌}
 use native.Mathlib.Omega.{arith}
 use Rattle.rules.specs.Outcome.{bind}
 use Rattle.rules.specs.Flat.{flat}
-use Rattle.syntax.specs.Input.{Input, source_of}
+use Rattle.rules.specs.Checks.{Tables, source_of}
 use Rattle.rules.specs.Routines.{eat}
 use Rattle.rules.specs.Tables.{token_count}
 use Rattle.lexer.proofs.Laws.{left-some}
@@ -18,23 +18,23 @@ use Rattle.state.specs.declared.Step.TheVariants.{Went}
 use Rattle.state.proofs.Walk.{Rule, last_step, two_steps, Walk, Call, begins, turns, passes, forgets, leaves}
 
 -- the step that eats
-abbrev pub eats : Input → Rule
+abbrev pub eats : Tables → Rule
 eats t n d = eat (flat n) (source_of t)
 
 -- from p and m the code came to q and v in the same node: what is left is the loop, `more` of so many turns, and they are enough
-pub record Far (t : Input) (rule : Rule) (more : ℕ → Rule) (p : Parser) (m : Buffers) (q : Parser) (v : Buffers) : Type 0 where
+pub record Far (t : Tables) (rule : Rule) (more : ℕ → Rule) (p : Parser) (m : Buffers) (q : Parser) (v : Buffers) : Type 0 where
   pub fuel : ℕ
   pub enough : left_of t q ≤ fuel
   pub walk : Walk t rule (more fuel ∷ []) 0 0 p.list.scope p m q v
 
 -- the same in a turn: a token is eaten, and then the loop goes on as `next`
-pub record OneTurn (t : Input) (rule : Rule) (next : ℕ → Rule) (p : Parser) (m : Buffers) (q : Parser) (v : Buffers) : Type 0 where
+pub record OneTurn (t : Tables) (rule : Rule) (next : ℕ → Rule) (p : Parser) (m : Buffers) (q : Parser) (v : Buffers) : Type 0 where
   pub fuel : ℕ
   pub enough : left_of t q ≤ suc fuel
   pub walk : Walk t rule (eats t ∷ next fuel ∷ []) 0 0 p.list.scope p m q v
 
 -- it begins, with as many turns as are left to read
-pub far_begins : {t : Input} {rule : Rule} {more : ℕ → Rule} {p : Parser} {m : Buffers} → Ready t p m
+pub far_begins : {t : Tables} {rule : Rule} {more : ℕ → Rule} {p : Parser} {m : Buffers} → Ready t p m
     → ((n d : ℕ) → rule n d (pos_of p m) ≡ more (left_of t p) n d (pos_of p m)) → Far t rule more p m p m
 far_begins {t} {more = more} {p} {m} ready is = record {
   fuel = left_of t p;
@@ -43,7 +43,7 @@ far_begins {t} {more = more} {p} {m} ready is = record {
 }
 
 -- a token is next
-module _ {t : Input} {rule : Rule} (more next : ℕ → Rule) {p : Parser} {m : Buffers} {q : Parser} {v : Buffers}
+module _ {t : Tables} {rule : Rule} (more next : ℕ → Rule) {p : Parser} {m : Buffers} {q : Parser} {v : Buffers}
     (there : q.lexer.token < token_count t.tokens)
     (is : (fuel n d : ℕ) → more (suc fuel) n d (pos_of q v) ≡ bind (eat (flat n) (source_of t) (pos_of q v)) (next fuel n d)) where
   by_fuel : (fuel : ℕ) → left_of t q ≤ fuel → Walk t rule (more fuel ∷ []) 0 0 p.list.scope p m q v → OneTurn t rule next p m q v
@@ -59,7 +59,7 @@ module _ {t : Input} {rule : Rule} (more next : ℕ → Rule) {p : Parser} {m : 
   one-turn f = by_fuel f.fuel f.enough f.walk
 
 -- the token was eaten
-module _ {t : Input} {rule : Rule} {next : ℕ → Rule} {p : Parser} {m : Buffers} {q : Parser} {v : Buffers} {r : Step} {x : Buffers} {z : Parser}
+module _ {t : Tables} {rule : Rule} {next : ℕ → Rule} {p : Parser} {m : Buffers} {q : Parser} {v : Buffers} {r : Step} {x : Buffers} {z : Parser}
     (turn : OneTurn t rule next p m q v) (ate : Call t (eats t) 0 (λ u. Left t 1 q v u x) q v r x) (went_on : r ≡ Went z) where
   -- less is left of what is to be read
   pub less_left : left_of t z + 1 ≤ left_of t q

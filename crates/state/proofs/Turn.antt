@@ -6,7 +6,7 @@ use Rattle.rules.specs.Tables.{token_count}
 use mathlib.Core.List.{List, [], ◌∷◌}
 use Prim.Native.Nat.{ℕ, suc, ◌+◌, ◌<◌}
 use lib.ListN.{length}
-use Rattle.syntax.specs.Input.{Input, source_of}
+use Rattle.rules.specs.Checks.{Tables, source_of}
 use Rattle.rules.specs.Flat.{flat}
 use Rattle.rules.specs.Position as position
 use Rattle.rules.specs.Position.{Source}
@@ -29,7 +29,7 @@ Finishing kind frame u r tree after =
     (notes : List ℕ)
     → Closes (λ n. position.finish (flat n) kind (shown.frame_of frame)) frame.first frame.node u (buffers tree notes) r (buffers after notes)
 
-module _ {t : Input} {kind given : ℕ} {u : Parser} {r : Step} {tree after notes : List ℕ} {lift : ℕ} where
+module _ {t : Tables} {kind given : ℕ} {u : Parser} {r : Step} {tree after notes : List ℕ} {lift : ℕ} where
   pub starts : given ≡ kind → ((notes : List ℕ) → Opens (λ n. position.start (flat n) given) u (buffers tree notes) r (buffers after notes))
       → Call t (λ n d. position.start (flat n) kind) lift (λ q. Begun t u (buffers tree notes) q (buffers after notes))
       u (buffers tree notes) r (buffers after notes)
@@ -42,19 +42,19 @@ module _ {t : Input} {kind given : ℕ} {u : Parser} {r : Step} {tree after note
   finishes e f k = closes (rw (e, f) at (k notes))
 
 -- a node that begins around what stands from a mark on, where the code computed the mark
-pub around : (kind : ℕ) {t : Input} {at given : Mark} {u : Parser} {r : Step} {tree after notes : List ℕ} {lift : ℕ} → given ≡ at
+pub around : (kind : ℕ) {t : Tables} {at given : Mark} {u : Parser} {r : Step} {tree after notes : List ℕ} {lift : ℕ} → given ≡ at
     → ((s : Source) (notes : List ℕ) → Opens (λ n. start_around (flat n) s kind (option_of given)) u (buffers tree notes) r (buffers after notes))
     → Call t (λ n d. start_around (flat n) (source_of t) kind (option_of at)) lift (λ q. Begun t u (buffers tree notes) q (buffers after notes))
     u (buffers tree notes) r (buffers after notes)
 around kind {t} {notes = notes} e k = opens (rw e at (k (source_of t) notes))
 
 -- a routine that begins a node
-pub begins-in : {t : Input} {rule : RuleOf} {u : Parser} {v : Buffers} {r : Step} {x : Buffers} {lift : ℕ}
+pub begins-in : {t : Tables} {rule : RuleOf} {u : Parser} {v : Buffers} {r : Step} {x : Buffers} {lift : ℕ}
     → Begins rule u v r x → Call t (λ n d. rule (source_of t) n) lift (λ q. Begun t u v q x) u v r x
 begins-in {t} k = record { is = λ ready d h. (k.told t ready).is; gone = λ ready. (k.told t ready).gone }
 
 -- a routine that was given what the code computed
-pub ran-at : {X : Type 0} (rule : X → RuleOf) {t : Input} {sees : Input → Type 0} {gain : ℕ} {x y : X}
+pub ran-at : {X : Type 0} (rule : X → RuleOf) {t : Tables} {sees : Tables → Type 0} {gain : ℕ} {x y : X}
     → {u : Parser} {r : Step} {tree after notes : List ℕ} {lift : ℕ}
     → sees t → y ≡ x → ((notes : List ℕ) → Ran sees gain (rule y) u (buffers tree notes) r (buffers after notes))
     → Call t (λ n d. rule x (source_of t) n) lift (λ q. Left t gain u (buffers tree notes) q (buffers after notes))
@@ -62,7 +62,7 @@ pub ran-at : {X : Type 0} (rule : X → RuleOf) {t : Input} {sees : Input → Ty
 ran-at rule {notes = notes} seen e k = ran seen (rw e at (k notes))
 
 -- a node's start reads nothing: what was next is next in the node
-pub still_next : {t : Input} {f : Rule} {u : Parser} {v : Buffers} {r : Step} {x : Buffers} {z : Parser}
+pub still_next : {t : Tables} {f : Rule} {u : Parser} {v : Buffers} {r : Step} {x : Buffers} {z : Parser}
     → Ready t u v → Call t f 0 (λ q. Begun t u v q x) u v r x → r ≡ Went z → u.lexer.token < token_count t.tokens
     → z.lexer.token < token_count t.tokens
 still_next {t} {u = u} {v} {x = x} {z} ready k e next =
@@ -72,7 +72,7 @@ still_next {t} {u = u} {v} {x = x} {z} ready k e next =
 -- ---- a node is ended before the last step
 
 -- the callee went, and ended the node that the routine opened: it is in its own again
-pub leaves-node : {t : Input} {rule f : Rule} {rest : List Rule} {gain scope : ℕ} {s : Parser} {m : Buffers}
+pub leaves-node : {t : Tables} {rule f : Rule} {rest : List Rule} {gain scope : ℕ} {s : Parser} {m : Buffers}
     → {u : Parser} {v : Buffers} {r : Step} {x : Buffers} {z : Parser}
     → Ready t s m → Walk t rule (f ∷ rest) gain 1 scope s m u v → Call t f 1 (λ q. Ended t s.builder.first s.builder.node u v q x) u v r x
     → r ≡ Went z
@@ -99,13 +99,13 @@ leaves-node {gain = gain} ready w k e =
 -- ---- a turn
 
 -- it was refused, and so is the routine; or it went, and `rest` is left. Either way the buffers are as long as at the entry
-pub record Turn (t : Input) (rule : Rule) (rest : List Rule) (gain lift scope : ℕ) (s : Parser) (m : Buffers) (r : Step) (x : Buffers) : Type 0 where
+pub record Turn (t : Tables) (rule : Rule) (rest : List Rule) (gain lift scope : ℕ) (s : Parser) (m : Buffers) (r : Step) (x : Buffers) : Type 0 where
   pub refused : {any : ℕ} → Stopped r → Runs t any (λ n d. rule n d (pos_of s m)) s m r x
   pub went : {z : Parser} → r ≡ Went z → Walk t rule rest gain lift scope s m z x
   pub tree_long : length x.tree ≡ length m.tree
   pub notes_long : length x.dropped ≡ length m.dropped
 
-module _ {t : Input} {rule f : Rule} {rest : List Rule} {gain : ℕ} {scope : ℕ} {s : Parser} {m : Buffers} {u : Parser} {v : Buffers} {r : Step}
+module _ {t : Tables} {rule f : Rule} {rest : List Rule} {gain : ℕ} {scope : ℕ} {s : Parser} {m : Buffers} {u : Parser} {v : Buffers} {r : Step}
     {x : Buffers} where
   -- a callee that leaves the node as it was
   pub calls : {lift more : ℕ} (w : Walk t rule (f ∷ rest) gain lift scope s m u v) → Call t f lift (λ q. Left t more u v q x) u v r x
@@ -139,7 +139,7 @@ module _ {t : Input} {rule f : Rule} {rest : List Rule} {gain : ℕ} {scope : �
   }
 
 -- the last call, in the routine's own node: as it ended, so does the routine
-pub done : {t : Input} {rule : Rule} {gain : ℕ} {s : Parser} {m : Buffers} {r : Step} {x : Buffers} → Turn t rule [] gain 0 s.list.scope s m r x
+pub done : {t : Tables} {rule : Rule} {gain : ℕ} {s : Parser} {m : Buffers} {r : Step} {x : Buffers} → Turn t rule [] gain 0 s.list.scope s m r x
     → Runs t gain (λ n d. rule n d (pos_of s m)) s m r x
 done {t} {rule} {gain} {s} {m} {r} {x} k = either r k
   where
@@ -148,7 +148,7 @@ done {t} {rule} {gain} {s} {m} {r} {x} k = either r k
     either (Refused number place) k = k.refused ((number, (place, tt)), refl)
 
 -- a routine that begins a node by its last step, and reads nothing before it
-pub begins-last : {t : Input} {rule f : Rule} {scope : ℕ} {s : Parser} {m : Buffers} {u : Parser} {v : Buffers} {r : Step} {x : Buffers}
+pub begins-last : {t : Tables} {rule f : Rule} {scope : ℕ} {s : Parser} {m : Buffers} {u : Parser} {v : Buffers} {r : Step} {x : Buffers}
     → Walk t rule (f ∷ []) 0 0 scope s m u v → u.lexer ≡ s.lexer → u.list ≡ s.list → Call t f 0 (λ q. Begun t u v q x) u v r x
     → Told (λ n. rule n nodes) (λ q. Begun t s m q x) s m r x
 begins-last {t} {f = f} {s = s} {m} {u} {v} {r} {x} w same-lexer same-list k =

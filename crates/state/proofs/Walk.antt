@@ -7,7 +7,7 @@ use lib.ListN.{length, drop}
 use lib.Seq.{drop-drop}
 use Rattle.rules.specs.Limits.{nodes, tree_width, dropped_width}
 use Rattle.rules.specs.Outcome.{Out, went, refused, bind}
-use Rattle.syntax.specs.Input.{Input, source_of}
+use Rattle.rules.specs.Checks.{Tables, source_of}
 use Rattle.state.specs.Stands.{Buffers, Here, pos_of, out_of}
 use Rattle.state.specs.Contract.{Ready, Passed, Left, Begun, Ended, Gone, Told, RuleOf, Ran, Opens, Closes, Runs, Somehow, left_of, weight}
 use Rattle.state.specs.declared.Parser.{Parser}
@@ -73,7 +73,7 @@ drop_more n m x y le e =
     rw (← up) (sym (drop-drop (m - n) n x) ∙ ap (λ (l : List ℕ). drop (m - n) l) e ∙ drop-drop (m - n) n y)
 
 -- how far q is ahead of p, in numbers
-pub record Ahead (t : Input) (gain : ℕ) (p q : Parser) : Type 0 where
+pub record Ahead (t : Tables) (gain : ℕ) (p q : Parser) : Type 0 where
   pub rows : p.builder.rows ≤ q.builder.rows
   pub dropped : p.dropped ≤ q.dropped
   pub token : p.lexer.token ≤ q.lexer.token
@@ -81,7 +81,7 @@ pub record Ahead (t : Input) (gain : ℕ) (p q : Parser) : Type 0 where
   pub light : weight t q ≤ weight t p
 
 -- what both buffers share behind q's rows, their lengths, and the numbers
-pub passing : {t : Input} {gain : ℕ} {p : Parser} {m : Buffers} {q : Parser} {v : Buffers}
+pub passing : {t : Tables} {gain : ℕ} {p : Parser} {m : Buffers} {q : Parser} {v : Buffers}
     → drop (q.builder.rows * tree_width) v.tree ≡ drop (q.builder.rows * tree_width) m.tree
     → drop (q.dropped * dropped_width) v.dropped ≡ drop (q.dropped * dropped_width) m.dropped
     → length v.tree ≡ length m.tree → length v.dropped ≡ length m.dropped → Ahead t gain p q
@@ -98,7 +98,7 @@ passing tree notes tree_long notes_long a = record {
   light = a.light;
 }
 
-pub passed_then : {t : Input} {g h : ℕ} {p : Parser} {m : Buffers} {q : Parser} {v : Buffers} {z : Parser} {x : Buffers} → Passed t g p m q v
+pub passed_then : {t : Tables} {g h : ℕ} {p : Parser} {m : Buffers} {q : Parser} {v : Buffers} {z : Parser} {x : Buffers} → Passed t g p m q v
     → Passed t h q v z x → Passed t (g + h) p m z x
 passed_then {m} {q} {v} {z} a b =
     passing
@@ -107,11 +107,11 @@ passed_then {m} {q} {v} {z} a b =
     (b.tree_long ∙ a.tree_long) (b.notes_long ∙ a.notes_long) (omega arith)
 
 -- nothing was done
-pub stays : {t : Input} {p : Parser} {m : Buffers} → Passed t 0 p m p m
+pub stays : {t : Tables} {p : Parser} {m : Buffers} → Passed t 0 p m p m
 stays = passing refl refl refl refl (omega arith)
 
 -- less is claimed of what was read
-pub weaker : {t : Input} {g : ℕ} {p : Parser} {m : Buffers} {q : Parser} {v : Buffers} (h : ℕ) → h ≤ g → Passed t g p m q v → Passed t h p m q v
+pub weaker : {t : Tables} {g : ℕ} {p : Parser} {m : Buffers} {q : Parser} {v : Buffers} (h : ℕ) → h ≤ g → Passed t g p m q v → Passed t h p m q v
 weaker h le a = passing a.tree a.notes a.tree_long a.notes_long (omega arith)
 
 -- ---- where the code stands
@@ -128,7 +128,7 @@ stays_home (suc lift) s u z a b h = tt
 
 -- from s and m the code came to u and v: `rest` is left of the rule, at least `gain` was read, `lift` nodes are open that were not,
 -- and the list's scope is `scope`
-pub record Walk (t : Input) (rule : Rule) (rest : List Rule) (gain lift scope : ℕ) (s : Parser) (m : Buffers) (u : Parser)
+pub record Walk (t : Tables) (rule : Rule) (rest : List Rule) (gain lift scope : ℕ) (s : Parser) (m : Buffers) (u : Parser)
     (v : Buffers) : Type 0 where
   pub is : (d : ℕ) → nodes ≤ s.builder.depth + d → rule (length m.tree) d (pos_of s m) ≡ line rest (length m.tree) d (pos_of u v)
   pub passed : Passed t gain s m u v
@@ -139,26 +139,26 @@ pub record Walk (t : Input) (rule : Rule) (rest : List Rule) (gain lift scope : 
   pub scope_is : u.list.scope ≡ scope
 
 -- any callee's contract in one form
-pub record Call (t : Input) (f : Rule) (lift : ℕ) (Q : Parser → Type 0) (u : Parser) (v : Buffers) (r : Step) (x : Buffers) : Type 0 where
+pub record Call (t : Tables) (f : Rule) (lift : ℕ) (Q : Parser → Type 0) (u : Parser) (v : Buffers) (r : Step) (x : Buffers) : Type 0 where
   pub is : Ready t u v → (d : ℕ) → nodes + lift ≤ u.builder.depth + d → f (length v.tree) d (pos_of u v) ≡ out_of r x
   pub gone : Ready t u v → Gone Q r
 
 -- a routine outside the cycle
-pub ran : {t : Input} {sees : Input → Type 0} {gain : ℕ} {rule : RuleOf} {u : Parser} {v : Buffers} {r : Step} {x : Buffers} {lift : ℕ}
+pub ran : {t : Tables} {sees : Tables → Type 0} {gain : ℕ} {rule : RuleOf} {u : Parser} {v : Buffers} {r : Step} {x : Buffers} {lift : ℕ}
     → sees t → Ran sees gain rule u v r x → Call t (λ n d. rule (source_of t) n) lift (λ q. Left t gain u v q x) u v r x
 ran {t} seen k = record { is = λ ready d h. (k.told t seen ready).is; gone = λ ready. (k.told t seen ready).gone }
 
-pub opens : {t : Input} {rule : ℕ → Here → Out Here} {u : Parser} {v : Buffers} {r : Step} {x : Buffers} {lift : ℕ}
+pub opens : {t : Tables} {rule : ℕ → Here → Out Here} {u : Parser} {v : Buffers} {r : Step} {x : Buffers} {lift : ℕ}
     → Opens rule u v r x → Call t (λ n d. rule n) lift (λ q. Begun t u v q x) u v r x
 opens {t} k = record { is = λ ready d h. (k.told t ready.steady).is; gone = λ ready. (k.told t ready.steady).gone }
 
-pub closes : {t : Input} {rule : ℕ → Here → Out Here} {first node : ℕ} {u : Parser} {v : Buffers} {r : Step} {x : Buffers} {lift : ℕ}
+pub closes : {t : Tables} {rule : ℕ → Here → Out Here} {first node : ℕ} {u : Parser} {v : Buffers} {r : Step} {x : Buffers} {lift : ℕ}
     → Closes rule first node u v r x → Call t (λ n d. rule n) lift (λ q. Ended t first node u v q x) u v r x
 closes {t} k = record { is = λ ready d h. (k.told t ready).is; gone = λ ready. (k.told t ready).gone }
 
 -- ---- a walk begins
 
-pub begins : {t : Input} {rule : Rule} {rest : List Rule} {s : Parser} {m : Buffers} → Ready t s m
+pub begins : {t : Tables} {rule : Rule} {rest : List Rule} {s : Parser} {m : Buffers} → Ready t s m
     → ((n d : ℕ) → rule n d (pos_of s m) ≡ line rest n d (pos_of s m))
     → Walk t rule rest 0 0 s.list.scope s m s m
 begins {m} ready e =
@@ -174,7 +174,7 @@ begins {m} ready e =
 
 -- ---- a walk and the next step, f
 
-module _ {t : Input} {rule f : Rule} {rest : List Rule} {gain lift : ℕ} {scope : ℕ} {s : Parser} {m : Buffers} {u : Parser} {v : Buffers} {r : Step}
+module _ {t : Tables} {rule f : Rule} {rest : List Rule} {gain lift : ℕ} {scope : ℕ} {s : Parser} {m : Buffers} {u : Parser} {v : Buffers} {r : Step}
     {x : Buffers}
     (w : Walk t rule (f ∷ rest) gain lift scope s m u v) where
   -- what f comes to, at the caller's room and level
@@ -240,7 +240,7 @@ module _ {t : Input} {rule f : Rule} {rest : List Rule} {gain lift : ℕ} {scope
 
 -- ---- a walk goes on without a call
 
-module _ {t : Input} {rule : Rule} {rest : List Rule} {gain lift : ℕ} {scope : ℕ} {s : Parser} {m : Buffers} {u : Parser} {v : Buffers}
+module _ {t : Tables} {rule : Rule} {rest : List Rule} {gain lift : ℕ} {scope : ℕ} {s : Parser} {m : Buffers} {u : Parser} {v : Buffers}
     (w : Walk t rule rest gain lift scope s m u v) where
   -- a test was met, or a name has its value here: what is left is `next`
   pub turns : {next : List Rule} → ((n d : ℕ) → line rest n d (pos_of u v) ≡ line next n d (pos_of u v)) → Walk t rule next gain lift scope s m u v
@@ -269,7 +269,7 @@ module _ {t : Input} {rule : Rule} {rest : List Rule} {gain lift : ℕ} {scope :
 -- ---- a walk ends
 
 -- nothing is left of the rule, in the routine's own node
-pub arrives : {t : Input} {rule : Rule} {gain : ℕ} {s : Parser} {m : Buffers} {u : Parser} {v : Buffers}
+pub arrives : {t : Tables} {rule : Rule} {gain : ℕ} {s : Parser} {m : Buffers} {u : Parser} {v : Buffers}
     → Walk t rule [] gain 0 s.list.scope s m u v → Runs t gain (λ n d. rule n d (pos_of s m)) s m (Went u) v
 unfolding line
 arrives w =
@@ -280,7 +280,7 @@ arrives w =
     }
 
 -- the last step is another routine in the same node
-pub hands_on : {t : Input} {rule f : Rule} {gain more : ℕ} {s : Parser} {m : Buffers} {u : Parser} {v : Buffers} {r : Step} {x : Buffers}
+pub hands_on : {t : Tables} {rule f : Rule} {gain more : ℕ} {s : Parser} {m : Buffers} {u : Parser} {v : Buffers} {r : Step} {x : Buffers}
     → Walk t rule (f ∷ []) gain 0 s.list.scope s m u v → Call t f 0 (λ q. Left t more u v q x) u v r x
     → Runs t (gain + more) (λ n d. rule n d (pos_of s m)) s m r x
 hands_on {t} {f = f} {gain} {more} {s} {m} {u} {v} {r} {x} w k =
@@ -298,21 +298,21 @@ hands_on {t} {f = f} {gain} {more} {s} {m} {u} {v} {r} {x} w k =
     }
 
 -- a rule that does not ask for the level
-pub levelless : {t : Input} {want : ℕ → Here → Out Here} {gain : ℕ} {p : Parser} {m : Buffers} {r : Step} {v : Buffers}
+pub levelless : {t : Tables} {want : ℕ → Here → Out Here} {gain : ℕ} {p : Parser} {m : Buffers} {r : Step} {v : Buffers}
     → Runs t gain (λ n d. want n (pos_of p m)) p m r v → Told want (λ q. Left t gain p m q v) p m r v
 levelless k = record { is = k.is nodes (omega arith); gone = k.gone }
 
 -- the same routine by another rule that comes to the same
-pub ran-as : {sees : Input → Type 0} {gain : ℕ} {rule other : RuleOf} {p : Parser} {m : Buffers} {r : Step} {v : Buffers}
-    → Ran sees gain rule p m r v → ((t : Input) → sees t → (n : ℕ) → other (source_of t) n (pos_of p m) ≡ rule (source_of t) n (pos_of p m))
+pub ran-as : {sees : Tables → Type 0} {gain : ℕ} {rule other : RuleOf} {p : Parser} {m : Buffers} {r : Step} {v : Buffers}
+    → Ran sees gain rule p m r v → ((t : Tables) → sees t → (n : ℕ) → other (source_of t) n (pos_of p m) ≡ rule (source_of t) n (pos_of p m))
     → Ran sees gain other p m r v
 ran-as {m = m} k same = record {
   told = λ t seen ready. record { is = same t seen (length m.tree) ∙ (k.told t seen ready).is; gone = (k.told t seen ready).gone };
 }
 
 -- a routine that did nothing
-pub nothing-done : {sees : Input → Type 0} {rule : RuleOf} {p : Parser} {m : Buffers}
-    → ((t : Input) → sees t → (n : ℕ) → rule (source_of t) n (pos_of p m) ≡ went (pos_of p m)) → Ran sees 0 rule p m (Went p) m
+pub nothing-done : {sees : Tables → Type 0} {rule : RuleOf} {p : Parser} {m : Buffers}
+    → ((t : Tables) → sees t → (n : ℕ) → rule (source_of t) n (pos_of p m) ≡ went (pos_of p m)) → Ran sees 0 rule p m (Went p) m
 nothing-done {m = m} same = record {
   told = λ t seen ready. record {
     is = same t seen (length m.tree);
@@ -321,7 +321,7 @@ nothing-done {m = m} same = record {
 }
 
 -- less is claimed of what was read
-pub ran-less : {sees : Input → Type 0} {gain : ℕ} {rule : RuleOf} {p : Parser} {m : Buffers} {r : Step} {v : Buffers} → Ran sees gain rule p m r v
+pub ran-less : {sees : Tables → Type 0} {gain : ℕ} {rule : RuleOf} {p : Parser} {m : Buffers} {r : Step} {v : Buffers} → Ran sees gain rule p m r v
     → Ran sees 0 rule p m r v
 ran-less {p = p} {m} {r} {v} k = record {
   told = λ t seen ready. record {
@@ -338,13 +338,13 @@ ran-less {p = p} {m} {r} {v} k = record {
 }
 
 -- a routine whose walk is known for all tables that agree
-pub ran-by : {sees : Input → Type 0} {gain : ℕ} {rule : RuleOf} {p : Parser} {m : Buffers} {r : Step} {v : Buffers}
-    → ((t : Input) → sees t → Ready t p m → Runs t gain (λ n d. rule (source_of t) n (pos_of p m)) p m r v) → Ran sees gain rule p m r v
+pub ran-by : {sees : Tables → Type 0} {gain : ℕ} {rule : RuleOf} {p : Parser} {m : Buffers} {r : Step} {v : Buffers}
+    → ((t : Tables) → sees t → Ready t p m → Runs t gain (λ n d. rule (source_of t) n (pos_of p m)) p m r v) → Ran sees gain rule p m r v
 ran-by k = record { told = λ t seen ready. levelless (k t seen ready) }
 
 -- ---- what is asked of the next token
 
 -- a state for which its tables are known, whatever they are: a step on
-pub somehow_then : {sees : Input → Type 0} {p : Parser} {tree : List ℕ} {q : Parser} {after : List ℕ} (s : Somehow sees p tree)
+pub somehow_then : {sees : Tables → Type 0} {p : Parser} {tree : List ℕ} {q : Parser} {after : List ℕ} (s : Somehow sees p tree)
     → Ready s.t q (record { tree = after; dropped = s.notes }) → Somehow sees q after
 somehow_then s ready = record { t = s.t; notes = s.notes; seen = s.seen; ready = ready }

@@ -1,16 +1,16 @@
 -- What the contracts of the parser's routines say.
-use Rattle.std.specs.Prelude.{ℕ, ◌+◌, ◌*◌, ◌-◌, ◌^◌, ◌≤◌, ◌<◌, ◌≡◌, Bool, List, eqb, length, drop}
+use Rattle.std.specs.Prelude.{ℕ, ◌+◌, ◌*◌, ◌-◌, ◌/◌, ◌^◌, ◌≤◌, ◌<◌, ◌≡◌, Bool, List, eqb, length, drop}
 use Rattle.std.specs.Borrow.{Bor}
 use denote.Triple.Both.{Both}
-use Rattle.rules.specs.Limits.{tokens, nodes, tree_width, dropped_width}
+use Rattle.rules.specs.Limits.{tokens, nodes, tree_width, dropped_width, shape_width}
 use Rattle.rules.specs.Outcome.{Out, went}
 use Rattle.rules.specs.Flat.{flat}
 use Rattle.rules.specs.Routines.{ignore_holding_trivia}
-use Rattle.syntax.specs.Input.{Input, source_of, Shaped}
+use Rattle.rules.specs.Checks.{Tables, source_of}
 use Rattle.rules.specs.Builder.{Leaf}
 use Rattle.rules.specs.Position as position
 use Rattle.rules.specs.Position.{Source}
-use Rattle.rules.specs.Tables.{token_count, kind_at}
+use Rattle.rules.specs.Tables.{token_count, kind_at, shape_at}
 use Rattle.rules.specs.Token.{Word as word_kind}
 use Rattle.rules.specs.Cursor.{left, peek_text}
 use Rattle.lexer.specs.Reading.{cursor_of}
@@ -32,21 +32,21 @@ abbrev pub MarkOk : KeptMark → GreenNodeBuilder → Type 0
 MarkOk m b = Inside (checkpoint_of m) b
 
 -- tables that were not refused
-pub record Good (t : Input) : Type 0 where
+pub record Good (t : Tables) : Type 0 where
   pub sound : Sound t.text t.tokens
   pub few : token_count t.tokens ≤ tokens
-  pub shaped : (i : ℕ) → i < token_count t.tokens → Shaped t.settings t.tokens t.shapes i
+  pub shaped : (i : ℕ) → i < token_count t.tokens → shape_at t.tokens i ≤ length t.shapes / shape_width
 
 -- what is left to read from a state on
-abbrev pub left_of : Input → Parser → ℕ
+abbrev pub left_of : Tables → Parser → ℕ
 left_of t p = left t.tokens (cursor_of p.lexer)
 
 -- a weight that no step raises: each leaf takes something of what is left to read, or was held before
-abbrev pub weight : Input → Parser → ℕ
+abbrev pub weight : Tables → Parser → ℕ
 weight t p = p.builder.leaves + (p.lexer.token - p.held) + 2 * left_of t p
 
 -- a state in its buffers: no token is passed that is not there, no row is counted that is not there, and no more is dropped than was passed
-pub record Steady (t : Input) (p : Parser) (m : Buffers) : Type 0 where
+pub record Steady (t : Tables) (p : Parser) (m : Buffers) : Type 0 where
   pub good : Good t
   pub fine : Fine t.text t.tokens (cursor_of p.lexer)
   pub token : p.lexer.token ≤ token_count t.tokens
@@ -59,14 +59,14 @@ pub record Steady (t : Input) (p : Parser) (m : Buffers) : Type 0 where
   pub light : weight t p ≤ 2 ^ 31
 
 -- and a node is open
-pub record Ready (t : Input) (p : Parser) (m : Buffers) : Type 0 where
+pub record Ready (t : Tables) (p : Parser) (m : Buffers) : Type 0 where
   pub steady : Steady t p m
   pub within : Within p.builder
 
 -- ---- what a routine leaves
 
 -- on the way from p to q at least `gain` was read, and what lies behind q's rows in both buffers is as it was
-pub record Passed (t : Input) (gain : ℕ) (p : Parser) (m : Buffers) (q : Parser) (v : Buffers) : Type 0 where
+pub record Passed (t : Tables) (gain : ℕ) (p : Parser) (m : Buffers) (q : Parser) (v : Buffers) : Type 0 where
   pub tree : drop (q.builder.rows * tree_width) v.tree ≡ drop (q.builder.rows * tree_width) m.tree
   pub notes : drop (q.dropped * dropped_width) v.dropped ≡ drop (q.dropped * dropped_width) m.dropped
   pub tree_long : length v.tree ≡ length m.tree
@@ -78,7 +78,7 @@ pub record Passed (t : Input) (gain : ℕ) (p : Parser) (m : Buffers) (q : Parse
   pub light : weight t q ≤ weight t p
 
 -- a routine that went: the same node is open, in a list of the same scope
-pub record Left (t : Input) (gain : ℕ) (p : Parser) (m : Buffers) (q : Parser) (v : Buffers) : Type 0 where
+pub record Left (t : Tables) (gain : ℕ) (p : Parser) (m : Buffers) (q : Parser) (v : Buffers) : Type 0 where
   pub passed : Passed t gain p m q v
   pub ready : Ready t q v
   pub depth : q.builder.depth ≡ p.builder.depth
@@ -87,7 +87,7 @@ pub record Left (t : Input) (gain : ℕ) (p : Parser) (m : Buffers) (q : Parser)
   pub scope : q.list.scope ≡ p.list.scope
 
 -- a node was begun, here or at an earlier mark
-pub record Begun (t : Input) (p : Parser) (m : Buffers) (q : Parser) (v : Buffers) : Type 0 where
+pub record Begun (t : Tables) (p : Parser) (m : Buffers) (q : Parser) (v : Buffers) : Type 0 where
   pub passed : Passed t 0 p m q v
   pub ready : Ready t q v
   pub few : p.builder.depth < nodes
@@ -110,7 +110,7 @@ pub record Leafed (p : Parser) (tree : List ℕ) (q : Parser) (after : List ℕ)
   pub dropped : q.dropped ≡ p.dropped
 
 -- the innermost open node was ended, and its parent's frame is given back
-pub record Ended (t : Input) (first node : ℕ) (p : Parser) (m : Buffers) (q : Parser) (v : Buffers) : Type 0 where
+pub record Ended (t : Tables) (first node : ℕ) (p : Parser) (m : Buffers) (q : Parser) (v : Buffers) : Type 0 where
   pub passed : Passed t 0 p m q v
   pub steady : Steady t q v
   pub depth : q.builder.depth + 1 ≡ p.builder.depth
@@ -136,35 +136,35 @@ abbrev pub RuleOf : Type 0
 RuleOf = Source → ℕ → Here → Out Here
 
 -- a routine outside the cycle that does not see all tables or buffers keeps its promise for all that agree with those it sees
-pub record Ran (sees : Input → Type 0) (gain : ℕ) (rule : RuleOf) (p : Parser) (m : Buffers) (r : Step) (v : Buffers) : Type 0 where
-  pub told : (t : Input) → sees t → Ready t p m → Told (rule (source_of t)) (λ q. Left t gain p m q v) p m r v
+pub record Ran (sees : Tables → Type 0) (gain : ℕ) (rule : RuleOf) (p : Parser) (m : Buffers) (r : Step) (v : Buffers) : Type 0 where
+  pub told : (t : Tables) → sees t → Ready t p m → Told (rule (source_of t)) (λ q. Left t gain p m q v) p m r v
 
 -- one that opens a node
 pub record Opens (rule : ℕ → Here → Out Here) (p : Parser) (m : Buffers) (r : Step) (v : Buffers) : Type 0 where
-  pub told : (t : Input) → Steady t p m → Told rule (λ q. Begun t p m q v) p m r v
+  pub told : (t : Tables) → Steady t p m → Told rule (λ q. Begun t p m q v) p m r v
 
 -- the same inside a node that is open
 pub record Begins (rule : RuleOf) (p : Parser) (m : Buffers) (r : Step) (v : Buffers) : Type 0 where
-  pub told : (t : Input) → Ready t p m → Told (rule (source_of t)) (λ q. Begun t p m q v) p m r v
+  pub told : (t : Tables) → Ready t p m → Told (rule (source_of t)) (λ q. Begun t p m q v) p m r v
 
 -- one that closes a node
 pub record Closes (rule : ℕ → Here → Out Here) (first node : ℕ) (p : Parser) (m : Buffers) (r : Step) (v : Buffers) : Type 0 where
-  pub told : (t : Input) → Ready t p m → Told rule (λ q. Ended t first node p m q v) p m r v
+  pub told : (t : Tables) → Ready t p m → Told rule (λ q. Ended t first node p m q v) p m r v
 
 -- a routine of the cycle: its rule at every level that is enough for the nodes that may yet be opened
-pub record Runs (t : Input) (gain : ℕ) (want : ℕ → ℕ → Out Here) (p : Parser) (m : Buffers) (r : Step) (v : Buffers) : Type 0 where
+pub record Runs (t : Tables) (gain : ℕ) (want : ℕ → ℕ → Out Here) (p : Parser) (m : Buffers) (r : Step) (v : Buffers) : Type 0 where
   pub is : (d : ℕ) → nodes ≤ p.builder.depth + d → want (length m.tree) d ≡ out_of r v
   pub gone : Gone (λ q. Left t gain p m q v) r
 
 -- tables for which the state is ready, whatever they are
-pub record Known (sees : Input → Type 0) (p : Parser) (m : Buffers) : Type 0 where
-  pub t : Input
+pub record Known (sees : Tables → Type 0) (p : Parser) (m : Buffers) : Type 0 where
+  pub t : Tables
   pub seen : sees t
   pub ready : Ready t p m
 
 -- the same where the dropped buffer is not seen either
-pub record Somehow (sees : Input → Type 0) (p : Parser) (tree : List ℕ) : Type 0 where
-  pub t : Input
+pub record Somehow (sees : Tables → Type 0) (p : Parser) (tree : List ℕ) : Type 0 where
+  pub t : Tables
   pub notes : List ℕ
   pub seen : sees t
   pub ready : Ready t p (record { tree = tree; dropped = notes })
@@ -188,15 +188,15 @@ abbrev pub lent : Slice → Slice → Buffers
 lent tree dropped = buffers tree.now dropped.now
 
 -- the tables that a routine knows: those with these token rows
-abbrev pub Tokens : Slice → Input → Type 0
+abbrev pub Tokens : Slice → Tables → Type 0
 Tokens tokens t = t.tokens ≡ tokens.now
 
 -- and with this text too
-abbrev pub Texts : Slice → Slice → Input → Type 0
+abbrev pub Texts : Slice → Slice → Tables → Type 0
 Texts text tokens t = (t.text ≡ text.now) × (t.tokens ≡ tokens.now)
 
 -- and those in which these bytes are what is left of the next token
-abbrev pub LeftOf : Slice → Slice → Parser → Input → Type 0
+abbrev pub LeftOf : Slice → Slice → Parser → Tables → Type 0
 LeftOf tokens word p t = (t.tokens ≡ tokens.now) × (word.now ≡ peek_text t.text tokens.now (cursor_of p.lexer))
 
 -- a token is next
@@ -212,12 +212,12 @@ abbrev pub is_word : ℕ → Bool
 is_word kind = eqb kind word_kind
 
 -- what a routine comes to that is lent the tree buffer alone, whatever the dropped one holds
-abbrev pub Grows : (Input → Type 0) → Moments → Parser → Step → ℕ → RuleOf → Type 0
+abbrev pub Grows : (Tables → Type 0) → Moments → Parser → Step → ℕ → RuleOf → Type 0
 Grows sees tree p r gain rule =
     (notes : List ℕ) → Ran sees gain rule p (buffers tree.entry.now notes) r (buffers tree.exit.now notes)
 
 -- and one that is lent both
-abbrev pub Goes : (Input → Type 0) → Moments → Moments → Parser → Step → ℕ → RuleOf → Type 0
+abbrev pub Goes : (Tables → Type 0) → Moments → Moments → Parser → Step → ℕ → RuleOf → Type 0
 Goes sees tree dropped p r gain rule =
     Ran sees gain rule p (buffers tree.entry.now dropped.entry.now) r (buffers tree.exit.now dropped.exit.now)
 

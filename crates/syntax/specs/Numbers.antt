@@ -3,7 +3,6 @@ use Rattle.std.specs.Prelude.{ℕ, List, [], ◌∷◌}
 use Rattle.rules.specs.Flat
 use Rattle.rules.specs.Limits
 use Rattle.rules.specs.Matcher
-use Rattle.rules.specs.Names
 use Rattle.rules.specs.Outcome
 use Rattle.rules.specs.Tokeniser
 use Rattle.rules.specs.SyntaxKind
@@ -144,16 +143,4 @@ forms =
 
 -- 'Numbers of refusal': 1 to 4 are those of the tables, 9 is that of a sheet
 abbrev pub refusals : List ℕ
-refusals =
-    1
-    ∷ 2
-    ∷ 3
-    ∷ 4
-    ∷ Outcome.greedy_environment
-    ∷ Outcome.mark_before_node
-    ∷ Outcome.too_many_open
-    ∷ Outcome.no_room
-    ∷ 9
-    ∷ Names.bad_list
-    ∷ Tokeniser.not_ascii
-    ∷ []
+refusals = 1 ∷ 2 ∷ 3 ∷ 4 ∷ Outcome.greedy_environment ∷ Outcome.mark_before_node ∷ Outcome.too_many_open ∷ Outcome.no_room ∷ 9 ∷ Tokeniser.not_ascii ∷ []

@@ -24,13 +24,11 @@ impl Refusal {
     pub const NO_ROOM: u32 = 8;
     // A sheet that can't be read.
     pub const SHEET: u32 = 9;
-    // A list of names that is not as it must be.
-    pub const LIST: u32 = 10;
     // A byte over 127 in a formula's text.
     pub const NOT_ASCII: u32 = 11;
 
     // All of them, in order. The contract holds each to the paper's number.
-    pub fn numbers() -> [u32; 11]
+    pub fn numbers() -> [u32; 10]
         ensures { result ≡ refusals }
     {
         [
@@ -43,7 +41,6 @@ impl Refusal {
             Self::TOO_MANY_OPEN,
             Self::NO_ROOM,
             Self::SHEET,
-            Self::LIST,
             Self::NOT_ASCII,
         ]
     }

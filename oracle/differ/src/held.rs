@@ -1,17 +1,11 @@
-//! One formula held against the Rust, at some rooms, by numbers and by names.
+//! One formula held against the Rust, at some rooms.
 
 use answers::{formula_questions, PlainRow, Run, Spec};
 use cases::dice::Dice;
-use cases::Listed;
-use sheet::{listing, Answer, Lists, Ran, Row, Tables, START};
-
-use crate::by_names::ByNames;
+use sheet::{listing, Answer, Ran, Row, Tables, START};
 
 /// A run over lent buffers: the port's, or in tests one that is wrong on purpose.
 pub type Runner<'r> = &'r dyn Fn(&Tables, &mut [u32], &mut [u32]) -> Ran;
-
-/// The same by names.
-pub type NamedRunner<'r> = &'r dyn Fn(&Tables, &Lists, &mut [u32], &mut [u32]) -> Ran;
 
 /// Whether a formula is display, inline, valid, whole.
 pub type Questions = [bool; 4];
@@ -24,7 +18,6 @@ pub type Asked<'a> = &'a dyn Fn(&[u8], &[u32], usize) -> Questions;
 #[derive(Clone, Copy)]
 pub struct Held<'h> {
     pub run: Runner<'h>,
-    pub by_names: NamedRunner<'h>,
     pub asked: Asked<'h>,
 }
 
@@ -32,7 +25,6 @@ impl Held<'static> {
     /// The proved library.
     pub const PORT: Self = Self {
         run: &port::run,
-        by_names: &port::run_by_names,
         asked: &|text, tree, at| {
             [
                 port::is_display(text, tree, at),
@@ -70,97 +62,58 @@ const BEFORE: u32 = 0xdead_beef;
 /// The kind of a formula's node.
 const FORMULA: u32 = 43;
 
-/// What was the same: how many answers, by names as well, and what was answered about each
-/// formula of the tree with room enough.
-#[derive(Debug, PartialEq, Eq)]
+/// What was the same: how many answers, and what was answered about each formula of the tree
+/// with room enough.
+#[derive(Debug, Default, PartialEq, Eq)]
 pub struct Same {
     pub answers: usize,
-    pub by_names: usize,
-    pub listed: Listed,
     pub formulas: Vec<Questions>,
 }
 
 /// The first difference between what is held and the Rust, with both answers, or what was the
-/// same. The seed makes the lists of the runs by names.
+/// same.
 pub fn difference(
     run: &Run,
     text: &str,
     spec: &Spec,
     rooms: Rooms,
     held: Held,
-    seed: u64,
 ) -> Result<Same, String> {
-    let by_names = ByNames::new(&mut Dice::new(seed), spec, &run.tables);
-    let mut formulas = Vec::new();
-    let rooms = rooms.of(run.writes.len());
-    for &room in &rooms {
-        let written = answers_differ(run, room, held, &by_names)?;
-        if let Answer::Accepted { rows, .. } = &written.told {
-            texts_differ(run, text, rows, &written.tree)?;
-            formulas = questions_differ(text, spec, rows, &written.tree, held.asked)?;
-        }
+    let mut same = Same::default();
+    for room in rooms.of(run.writes.len()) {
+        same.formulas = answer_differs(run, text, spec, room, held)?;
+        same.answers += 1;
     }
-    Ok(Same {
-        answers: rooms.len(),
-        by_names: rooms.len(),
-        listed: by_names.listed,
-        formulas,
-    })
-}
-
-/// An answer, and both buffers as they are then.
-#[derive(PartialEq, Eq)]
-struct Written {
-    told: Answer,
-    tree: Vec<u32>,
-    dropped: Vec<u32>,
-}
-
-/// Both runs against the Rust, and one against the other.
-fn answers_differ(
-    run: &Run,
-    room: usize,
-    held: Held,
-    by_names: &ByNames,
-) -> Result<Written, String> {
-    let rust = run.answer(room);
-    let numbers = answer_differs(run, room, &rust, &|tree, dropped| {
-        (held.run)(&run.tables, tree, dropped)
-    })?;
-    let ByNames { tables, listed } = by_names;
-    let names = answer_differs(run, room, &rust, &|tree, dropped| {
-        (held.by_names)(tables, &listed.lists, tree, dropped)
-    });
-    match names {
-        Ok(names) if names == numbers => Ok(numbers),
-        Ok(_) => Err(format!("{by_names}, room {room}: other elements")),
-        Err(said) => Err(format!("{by_names}, {said}")),
-    }
+    Ok(same)
 }
 
 fn answer_differs(
     run: &Run,
+    text: &str,
+    spec: &Spec,
     room: usize,
-    rust: &Answer,
-    runner: &dyn Fn(&mut [u32], &mut [u32]) -> Ran,
-) -> Result<Written, String> {
+    held: Held,
+) -> Result<Vec<Questions>, String> {
     let mut tree = vec![BEFORE; Row::numbers_for(room)];
     let mut dropped = vec![BEFORE; 3 * run.tables.token_count()];
-    let ran = runner(&mut tree, &mut dropped);
+    let ran = (held.run)(&run.tables, &mut tree, &mut dropped);
     let told = Answer::of(ran, &tree, &dropped);
-    if told != *rust {
-        let row = rows_differ(rust, &told);
-        let (rust, told) = (listing(rust), listing(&told));
+    let rust = run.answer(room);
+    if told != rust {
+        let row = rows_differ(&rust, &told);
+        let (rust, told) = (listing(&rust), listing(&told));
         return Err(format!(
             "room {room}\nthe Rust: {rust}the port: {told}{row}"
         ));
     }
     buffers_differ(&told, &tree, &dropped)?;
-    Ok(Written {
-        told,
-        tree,
-        dropped,
-    })
+    match &told {
+        Answer::Accepted { rows, .. } => {
+            texts_differ(run, text, rows, &tree)?;
+            questions_differ(text, spec, rows, &tree, held.asked)
+        }
+        Answer::Refused { .. } => Ok(Vec::new()),
+    }
 }
 
 /// The first row that differs, as a listing has no line for a finish.

@@ -1,10 +1,9 @@
 //! The proved library held against the real Rust, formula by formula, in one process.
 
-mod by_names;
 mod formulas;
 mod held;
 mod tally;
 
 pub use formulas::formulas;
-pub use held::{difference, Asked, Held, NamedRunner, Questions, Rooms, Runner, Same};
+pub use held::{difference, Asked, Held, Questions, Rooms, Runner, Same};
 pub use tally::Tally;

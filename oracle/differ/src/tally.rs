@@ -4,7 +4,7 @@ use std::fmt;
 
 use answers::{Fault, Run, Spec};
 use cases::dice::Dice;
-use cases::{smallest, Listed};
+use cases::smallest;
 use sheet::Answer;
 
 use crate::held::{difference, Held, Questions, Rooms};
@@ -23,48 +23,6 @@ pub struct Tally {
     /// Formulas of all trees with room enough, and of how many each question said yes.
     formulas: usize,
     yes: [usize; 4],
-    names: Names,
-}
-
-/// What the runs by names had.
-#[derive(Debug, Default)]
-struct Names {
-    answers: usize,
-    reordered: usize,
-    /// Entries of the house lists and of the default lists.
-    entries: [usize; 2],
-    shadowed: usize,
-    misfits: usize,
-    unborne: usize,
-}
-
-impl Names {
-    fn count(&mut self, answers: usize, listed: &Listed) {
-        self.answers += answers;
-        self.reordered += usize::from(listed.reordered);
-        for (all, entries) in self.entries.iter_mut().zip(listed.entries) {
-            *all += entries;
-        }
-        self.shadowed += listed.shadowed;
-        self.misfits += listed.misfits;
-        self.unborne += listed.unborne;
-    }
-}
-
-impl fmt::Display for Names {
-    fn fmt(&self, f: &mut fmt::Formatter<'_>) -> fmt::Result {
-        let [house, usual] = self.entries;
-        writeln!(
-            f,
-            "{} answers by names; lists with {house} entries in house and {usual} in default, {} cases in another order",
-            self.answers, self.reordered
-        )?;
-        writeln!(
-            f,
-            "of the entries {} are shadowed, {} of them of the other class, and {} have a name that no token bears",
-            self.shadowed, self.misfits, self.unborne
-        )
-    }
 }
 
 impl Tally {
@@ -79,18 +37,16 @@ impl Tally {
             Err(fault) => panic!("{text:?}: {fault}"),
         };
         self.count(&run);
-        let seed = dice.number();
-        match difference(&run, text, spec, Rooms::Some(dice), held, seed) {
+        match difference(&run, text, spec, Rooms::Some(dice), held) {
             Ok(same) => {
                 self.answers += same.answers;
-                self.names.count(same.by_names, &same.listed);
                 same.formulas
                     .into_iter()
                     .for_each(|formula| self.asked(formula));
             }
             Err(_) => {
                 self.differ += 1;
-                println!("{}", cut_down(text, spec, held, seed));
+                println!("{}", cut_down(text, spec, held));
             }
         }
     }
@@ -115,17 +71,17 @@ impl Tally {
 }
 
 /// The smallest formula that still differs, with both answers.
-fn cut_down(text: &str, spec: &Spec, held: Held, seed: u64) -> String {
-    let differs = |text: &str, spec: &Spec| says(text, spec, held, seed).is_some();
+fn cut_down(text: &str, spec: &Spec, held: Held) -> String {
+    let differs = |text: &str, spec: &Spec| says(text, spec, held).is_some();
     let (text, spec) = smallest(text, spec, differs);
-    let said = says(&text, &spec, held, seed);
+    let said = says(&text, &spec, held);
     let said = said.unwrap_or_else(|| "only at its full length".to_owned());
     format!("differs: {text:?} with {spec}\n{said}")
 }
 
-fn says(text: &str, spec: &Spec, held: Held, seed: u64) -> Option<String> {
+fn says(text: &str, spec: &Spec, held: Held) -> Option<String> {
     let run = Run::of(text, spec).ok()?;
-    difference(&run, text, spec, Rooms::All, held, seed).err()
+    difference(&run, text, spec, Rooms::All, held).err()
 }
 
 impl fmt::Display for Tally {
@@ -146,7 +102,6 @@ impl fmt::Display for Tally {
             "{} formulas in the trees: {display} display, {inline} inline, {valid} valid, {whole} whole",
             self.formulas
         )?;
-        write!(f, "{}", self.names)?;
         writeln!(f, "the lexer panicked on {} more", self.outside)?;
         write!(f, "{} cases, {} differ", self.cases, self.differ)
     }

@@ -1,18 +1,17 @@
 //! The comparison tells each of the slips that look right from the Rust, each slip in a row's
-//! fifth number, slips in a run by names, and wrong answers to the questions.
+//! fifth number, and wrong answers to the questions.
 
 use answers::{Run, Spec};
 use cases::dice::Dice;
 use cases::smallest;
-use differ::{difference, formulas, Held, NamedRunner, Rooms, Runner};
-use model::{NameSlip, Slip};
-use sheet::{Lists, Ran, Row, Tables};
+use differ::{difference, formulas, Held, Rooms, Runner};
+use model::Slip;
+use sheet::{Ran, Row, Tables};
 
-/// How what is held differs on a formula. The seed makes the lists of its runs by names.
-fn says(text: &str, spec: &Spec, held: Held, seed: u64) -> Option<String> {
+/// How what is held differs on a formula.
+fn says(text: &str, spec: &Spec, held: Held) -> Option<String> {
     let run = Run::of(text, spec).ok()?;
-    let rooms = Rooms::Some(&mut Dice::new(0));
-    difference(&run, text, spec, rooms, held, seed).err()
+    difference(&run, text, spec, Rooms::Some(&mut Dice::new(0)), held).err()
 }
 
 /// The first of some formulas on which a runner differs, cut down.
@@ -21,12 +20,11 @@ fn first(run: Runner) -> Option<(String, String)> {
 }
 
 fn first_held(held: Held) -> Option<(String, String)> {
-    let mut formulas = (0..).zip(formulas(40_000, 1).take(40_000));
-    let (seed, (text, spec)) =
-        formulas.find(|(seed, (text, spec))| says(text, spec, held, *seed).is_some())?;
-    let differs = |text: &str, spec: &Spec| says(text, spec, held, seed).is_some();
+    let differs = |text: &str, spec: &Spec| says(text, spec, held).is_some();
+    let mut formulas = formulas(40_000, 1).take(40_000);
+    let (text, spec) = formulas.find(|(text, spec)| differs(text, spec))?;
     let (text, spec) = smallest(&text, &spec, differs);
-    let said = says(&text, &spec, held, seed)?;
+    let said = says(&text, &spec, held)?;
     Some((text, said))
 }
 
@@ -69,51 +67,6 @@ fn every_wrong_fifth_number_is_found_and_its_row_shown() {
             assert!(line.contains(row), "{slip:?}: {line}");
         }
     }
-}
-
-/// The model's run by names, so that what is tested is the comparison.
-fn by_model(tables: &Tables, lists: &Lists, tree: &mut [u32], dropped: &mut [u32]) -> Ran {
-    model::run_by_names(tables, lists, tree, dropped, None)
-}
-
-/// The smallest formula on which a run by names differs, and how.
-fn first_named(by_names: NamedRunner) -> Option<(String, String)> {
-    first_held(Held {
-        run: &|tables, tree, dropped| model::run(tables, tree, dropped, None),
-        by_names,
-        ..Held::PORT
-    })
-}
-
-#[test]
-fn the_models_run_by_names_is_the_rusts() {
-    assert_eq!(first_named(&by_model), None);
-}
-
-#[test]
-fn every_slip_by_names_is_found() {
-    for slip in NameSlip::IN_RIGHT_LISTS {
-        let slipped = |tables: &Tables, lists: &Lists, tree: &mut [u32], dropped: &mut [u32]| {
-            model::run_by_names(tables, lists, tree, dropped, Some(slip))
-        };
-        let (text, said) = first_named(&slipped).unwrap_or_else(|| panic!("{slip:?} is not found"));
-        assert!(text.chars().count() <= 20, "{slip:?}: {text}");
-        assert!(said.contains("by names, house \"\\x01"), "{slip:?}: {said}");
-    }
-}
-
-#[test]
-fn what_a_run_by_names_leaves_in_the_buffers_counts() {
-    let untidy = |tables: &Tables, lists: &Lists, tree: &mut [u32], dropped: &mut [u32]| {
-        let ran = by_model(tables, lists, tree, dropped);
-        if let Err(refusal) = ran {
-            dropped
-                .iter_mut()
-                .for_each(|number| *number = refusal.number);
-        }
-        ran
-    };
-    assert!(first_named(&untidy).is_some());
 }
 
 #[test]
@@ -178,7 +131,6 @@ fn the_same_seed_gives_the_same_formulas() {
             run: &model,
             ..Held::PORT
         },
-        0,
     );
     assert_eq!(
         same.map(|same| same.answers),

@@ -15,22 +15,17 @@ pub struct Case {
 }
 
 /// One case in so many lies around the limits of the tables: those are large.
-pub(crate) const LARGE: usize = 20_000;
+const LARGE: usize = 20_000;
 
 impl Case {
     pub fn by_chance(dice: &mut Dice) -> Self {
-        let mut tables = right(dice);
-        if dice.once_in(LARGE) {
-            around_limits(dice, &mut tables);
-        }
+        let mut tables = match dice.once_in(LARGE) {
+            true => around_limits(dice),
+            false => right(dice),
+        };
         if dice.once_in(2) {
             damage(dice, &mut tables);
         }
-        Self::lending(dice, tables)
-    }
-
-    /// Tables with buffers that are mostly long enough.
-    pub(crate) fn lending(dice: &mut Dice, tables: Tables) -> Self {
         let rows = tables.token_count();
         let dropped = match dice.below(8) {
             0 => (3 * rows).saturating_sub(1 + dice.below(3)),
@@ -65,8 +60,9 @@ fn right(dice: &mut Dice) -> Tables {
     }
 }
 
-/// One table gets as many bytes or rows as are allowed, or one more or less.
-pub(crate) fn around_limits(dice: &mut Dice, tables: &mut Tables) {
+/// Tables with as many bytes and rows as are allowed, or one more.
+fn around_limits(dice: &mut Dice) -> Tables {
+    let mut tables = right(dice);
     let around = |dice: &mut Dice, most: usize| most - 1 + dice.below(3);
     match dice.below(4) {
         0 => tables.text.resize(around(dice, 65_535), b'a'),
@@ -74,4 +70,5 @@ pub(crate) fn around_limits(dice: &mut Dice, tables: &mut Tables) {
         2 => tables.shapes = [1, 1, 1].repeat(around(dice, 4_096)),
         _ => tables.states = [0, 1, 4_095].repeat(around(dice, 4_096)),
     }
+    tables
 }

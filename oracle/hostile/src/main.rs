@@ -1,14 +1,11 @@
-//! Tables that no lexer makes, rows that no run gives, any bytes as a text and as lists of
-//! names: `hostile CASES SEED [bare]`, so many of each. With `bare` nothing lies around the lent buffers, for a tool
+//! Tables that no lexer makes, rows that no run gives, and any bytes as a text: `hostile CASES
+//! SEED [bare]`, so many of each. With `bare` nothing lies around the lent buffers, for a tool
 //! that watches memory.
 
 use std::process::ExitCode;
 
 use cases::dice::Dice;
-use hostile::{
-    by_port, difference, smallest, Answers, Around, Case, Formula, Named, NamedCase, NamedTally,
-    Rows,
-};
+use hostile::{by_port, difference, smallest, Answers, Around, Case, Formula, Rows};
 
 fn main() -> ExitCode {
     let words: Vec<String> = std::env::args().skip(1).collect();
@@ -21,8 +18,7 @@ fn main() -> ExitCode {
     match (count, seed) {
         (Ok(count), Ok(seed)) if count > 0 => {
             let asked = ask(count, seed) + cut(count, seed, around);
-            let named = by_names(count, seed, around);
-            let differ = asked + named + compare(count, seed, around);
+            let differ = asked + compare(count, seed, around);
             println!("{count} cases, {differ} differ");
             ExitCode::from(u8::from(differ > 0))
         }
@@ -95,50 +91,6 @@ fn show_formula(formula: Formula, around: Around) {
     let formula = formula.smallest(&|formula| says(formula).is_some());
     let said = says(&formula).unwrap_or_default();
     println!("differs: {formula:?}\n{said}");
-}
-
-/// Of one case in so many, each list is cut at every byte.
-const CUT: usize = 200;
-
-/// Runs so many tables by names, and says how many differ.
-fn by_names(count: usize, seed: u64, around: Around) -> usize {
-    let mut dice = Dice::new(seed.wrapping_add(2));
-    let mut tally = NamedTally::default();
-    let mut differ = 0;
-    let mut hold = |tally: &mut NamedTally, dice: &mut Dice, case: NamedCase| match case.difference(
-        dice,
-        around,
-        Named::PORT,
-    ) {
-        Ok(told) => tally.count(told),
-        Err(_) => {
-            differ += 1;
-            show_named(case, around);
-        }
-    };
-    while tally.cases < count {
-        let case = NamedCase::by_chance(&mut dice);
-        if dice.once_in(CUT) {
-            for cut in case.cuts() {
-                tally.cuts += 1;
-                hold(&mut tally, &mut dice, cut);
-            }
-        }
-        tally.cases += 1;
-        hold(&mut tally, &mut dice, case);
-    }
-    println!("{tally}");
-    differ
-}
-
-/// Prints the smallest case by names that still differs, with both answers.
-fn show_named(case: NamedCase, around: Around) {
-    let says = |case: &NamedCase| {
-        let told = case.difference(&mut Dice::new(0), around, Named::PORT);
-        told.err()
-    };
-    let case = case.smallest(&|case| says(case).is_some());
-    println!("differs: {case:?}\n{}", says(&case).unwrap_or_default());
 }
 
 /// Runs so many tables, and says how many differ.

@@ -11,7 +11,7 @@ pub fn smallest(case: Case, differs: &dyn Fn(&Case) -> bool) -> Case {
     }
 }
 
-pub(crate) fn smaller(case: &Case) -> impl Iterator<Item = Case> + '_ {
+fn smaller(case: &Case) -> impl Iterator<Item = Case> + '_ {
     let rows = case.tables.token_count();
     let without_row = move |row: usize| {
         let mut next = case.clone();

@@ -2,8 +2,6 @@
 //! backwards, empty.
 
 use cases::dice::Dice;
-use cases::shape_by_chance;
-use sheet::Shape;
 
 const WORD: u32 = 21;
 /// Kinds that open a node when repeated: `{`, `_`, a `\begin`, `\(`, `\left`.
@@ -18,32 +16,27 @@ pub(crate) fn tokens(dice: &mut Dice, text: &[u8], shapes: usize, count: usize) 
     let busy = dice.below(3);
     let mut rows = deep(dice);
     for _ in 0..count {
-        rows.extend(token(dice, text, shapes, busy));
+        let kind = match dice.below(4) > busy {
+            true => dice.below(40) as u32,
+            false => BUSY[dice.below(BUSY.len())],
+        };
+        let [start, len] = range(dice, text, kind == WORD);
+        let shape = match shapes == 0 || dice.once_in(3) {
+            true => 0,
+            false => dice.below(shapes + 1),
+        };
+        rows.extend([
+            word_or_blank(kind, len),
+            start as u32,
+            len as u32,
+            shape as u32,
+        ]);
     }
     rows
 }
 
-/// One of them; the busier, the likelier it opens or closes something.
-pub(crate) fn token(dice: &mut Dice, text: &[u8], shapes: usize, busy: usize) -> [u32; 4] {
-    let kind = match dice.below(4) > busy {
-        true => dice.below(40) as u32,
-        false => BUSY[dice.below(BUSY.len())],
-    };
-    let [start, len] = range(dice, text, kind == WORD);
-    let shape = match shapes == 0 || dice.once_in(3) {
-        true => 0,
-        false => dice.below(shapes + 1),
-    };
-    [
-        word_or_blank(kind, len),
-        start as u32,
-        len as u32,
-        shape as u32,
-    ]
-}
-
 /// Now and then about as many openers as nodes may be open.
-pub(crate) fn deep(dice: &mut Dice) -> Vec<u32> {
+fn deep(dice: &mut Dice) -> Vec<u32> {
     match dice.once_in(100) {
         true => [OPENERS[dice.below(OPENERS.len())], 0, 0, 0].repeat(115 + dice.below(20)),
         false => Vec::new(),
@@ -78,8 +71,19 @@ fn range(dice: &mut Dice, text: &[u8], word: bool) -> [usize; 2] {
 pub(crate) fn shapes(dice: &mut Dice, states: usize, count: usize) -> Vec<u32> {
     let mut rows = Vec::new();
     for _ in 0..count {
-        let Shape { class, form, value } = shape_by_chance(dice, states);
-        rows.extend([class, form, value]);
+        let class = 1 + dice.below(2) as u32;
+        let forms = if class == 1 { 7 } else { 5 };
+        let form = match dice.below(forms) {
+            4 if states == 0 => 3,
+            form => form,
+        };
+        let value = match form {
+            1 | 2 if dice.once_in(8) => 250 + dice.below(6),
+            1 | 2 => dice.below(4),
+            4 => 1 + dice.below(states),
+            _ => 0,
+        };
+        rows.extend([class, form as u32, value as u32]);
     }
     rows
 }

@@ -11,36 +11,24 @@ const SHAPES: usize = 4_096;
 const STATES: usize = 4_096;
 
 pub(crate) fn check(tables: &Tables, dropped: usize) -> Step {
-    check_tokens(tables, dropped)?;
-    let shapes = tables.shape_count();
-    let states = tables.state_count();
-    let fits = |shape| shape_fits(shape) && glob_fits(shape, states);
-    match (0..shapes).find(|&index| !fits(tables.shape(index))) {
-        Some(place) => refuse(4, place),
-        None => check_states(tables, shapes),
-    }
-}
-
-/// Refusals 1 to 3.
-pub(crate) fn check_tokens(tables: &Tables, dropped: usize) -> Step {
     if !sizes_fit(tables) {
         return refuse(1, 0);
     }
     if dropped < 3 * tables.token_count() {
         return refuse(2, 0);
     }
-    match tables.tokens().position(|token| !token_fits(tables, token)) {
-        Some(place) => refuse(3, place),
-        None => Ok(()),
+    if let Some(place) = tables.tokens().position(|token| !token_fits(tables, token)) {
+        return refuse(3, place);
     }
-}
-
-/// Refusal 4 for the states, whose places are counted on behind so many rows.
-pub(crate) fn check_states(tables: &Tables, before: usize) -> Step {
+    let shapes = tables.shape_count();
+    let mut shape_rows = (0..shapes).map(|index| tables.shape(index));
+    if let Some(place) = shape_rows.position(|shape| !shape_fits(tables, shape)) {
+        return refuse(4, place);
+    }
     let states = tables.state_count();
     let too_high = |index: &usize| tables.state(*index).iter().any(|&s| s as usize > states);
     match (0..states).find(too_high) {
-        Some(index) => refuse(4, before + index),
+        Some(index) => refuse(4, shapes + index),
         None => Ok(()),
     }
 }
@@ -67,12 +55,11 @@ fn token_fits(tables: &Tables, token: Token) -> bool {
     token.kind != kinds::WORD || (!text.is_empty() && std::str::from_utf8(text).is_ok())
 }
 
-/// Whether document 01 has such a shape; a glob's value is another question.
-pub(crate) fn shape_fits(shape: Shape) -> bool {
+fn shape_fits(tables: &Tables, shape: Shape) -> bool {
     let value = match shape.form {
         0 | 3 | 5 | 6 => shape.value == 0,
         1 | 2 => shape.value <= 255,
-        4 => true,
+        4 => (1..=tables.state_count()).contains(&(shape.value as usize)),
         _ => false,
     };
     let class = match shape.form {
@@ -80,9 +67,4 @@ pub(crate) fn shape_fits(shape: Shape) -> bool {
         _ => (1..=2).contains(&shape.class),
     };
     value && class
-}
-
-/// Whether a glob begins at one of so many states. Other forms don't ask for one.
-pub(crate) fn glob_fits(shape: Shape, states: usize) -> bool {
-    shape.form != 4 || (1..=states).contains(&(shape.value as usize))
 }

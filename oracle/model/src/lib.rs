@@ -1,5 +1,5 @@
 //! Document 01 as a plain program, with the fifth number that document 02 adds to a row, its
-//! strict question, its tokeniser and its lists of names.
+//! strict question and its tokeniser.
 //!
 //! It shares no code with the parser of mitex, so that holding the two against each other
 //! tests how the document is read. Where the document itself says that a routine is as the
@@ -7,14 +7,11 @@
 //! Rust it takes any tables, also those that no lexer makes, and it writes to lent buffers.
 
 mod arguments;
-mod by_names;
 mod checks;
 mod commands;
 mod items;
 mod kinds;
 mod matcher;
-mod name_slip;
-mod names;
 mod questions;
 mod reader;
 mod refusal;
@@ -24,9 +21,6 @@ mod stops;
 mod token_slip;
 mod tokens;
 
-pub use by_names::{name_borne, run_by_names};
-pub use name_slip::NameSlip;
-pub use names::{check_lists, lookup};
 pub use questions::{is_display, is_inline, is_valid, is_whole};
 pub use slip::Slip;
 pub use token_slip::TokenSlip;
@@ -40,11 +34,6 @@ use sheet::{Answer, Ran, Tables};
 /// buffers to zeros.
 pub fn run(tables: &Tables, tree: &mut [u32], dropped: &mut [u32], slip: Option<Slip>) -> Ran {
     checks::check(tables, dropped.len())?;
-    read(tables, tree, dropped, slip)
-}
-
-/// The run without the checks.
-fn read(tables: &Tables, tree: &mut [u32], dropped: &mut [u32], slip: Option<Slip>) -> Ran {
     let result = Reader::new(tables, Rows::new(tree, dropped, slip), slip).read();
     if result.is_err() {
         tree.fill(0);

@@ -1,7 +1,7 @@
 //! The proved library, over the same tables and answers as the model.
 
 use cartglaze::Answer;
-use sheet::{Counts, Lists, Ran, Refusal, Row, Tables, Token, Tokenised};
+use sheet::{Counts, Ran, Refusal, Row, Tables, Token, Tokenised};
 
 pub use cartglaze::{is_display, is_inline, is_leaf, is_valid, is_whole, leaf_text};
 
@@ -17,39 +17,13 @@ pub fn run(tables: &Tables, tree: &mut [u32], dropped: &mut [u32]) -> Ran {
         shapes: &tables.shapes,
         states: &tables.states,
     };
-    ran(cartglaze::run(lent, tree, dropped))
-}
-
-/// The same by names. The tables' own shapes are not lent.
-pub fn run_by_names(tables: &Tables, lists: &Lists, tree: &mut [u32], dropped: &mut [u32]) -> Ran {
-    let lent = cartglaze::NamedTables {
-        text: &tables.text,
-        tokens: &tables.tokens,
-        house: &lists.house,
-        usual: &lists.usual,
-        states: &tables.states,
-    };
-    ran(cartglaze::run_by_names(lent, tree, dropped))
-}
-
-fn ran(answer: Answer) -> Ran {
-    match answer {
+    match cartglaze::run(lent, tree, dropped) {
         Answer::Accepted { rows, dropped } => Ok(Counts { rows, dropped }),
         Answer::Refused { number, place } => Err(Refusal {
             number: number as u32,
             place,
         }),
     }
-}
-
-/// Refusal 10's place, if a list has a fault.
-pub fn check_lists(lists: &Lists) -> Result<(), usize> {
-    cartglaze::check_lists(&lists.house, &lists.usual)
-}
-
-/// The part of a list that a name has.
-pub fn lookup<'l>(lists: &'l Lists, name: &[u8]) -> &'l [u8] {
-    cartglaze::lookup(&lists.house, &lists.usual, name)
 }
 
 /// The tokens of a text, into lent numbers.

@@ -1,10 +1,9 @@
 //! The tables that document 01 lets in, the rows that it lets out with the fifth number of
-//! document 02, its lists of names, and the bytes of a sheet. Nothing here knows of mitex.
+//! document 02, and the bytes of a sheet. Nothing here knows of mitex.
 
 mod answer;
 mod bytes;
 mod listing;
-mod lists;
 mod ran;
 mod tables;
 mod treelist;
@@ -12,7 +11,6 @@ mod treelist;
 pub use answer::{Answer, Dropped, Row, FINISH, LEAF, START};
 pub use bytes::{Bytes, Unread};
 pub use listing::listing;
-pub use lists::{list, Entry, Lists, Part};
 pub use ran::{Counts, Ran, Refusal, Tokenised};
 pub use tables::{Shape, State, Tables, Token};
 pub use treelist::{SHEET_BYTES, TREE_ROWS};

@@ -3,7 +3,7 @@ use mathlib.Core.Path.{◌≡◌, refl, sym, ap₂, subst, ◌∙◌}
 use mathlib.Core.List.{List, [], ◌∷◌}
 use Prim.Native.Nat.{ℕ}
 use borrow.Author.Rules.{rules}
-use Rattle.syntax.specs.Input.{Input, source_of}
+use Rattle.rules.specs.Checks.{Tables, source_of}
 use Rattle.rules.specs.Flat.{flat}
 use Rattle.rules.specs.Position as position
 use Rattle.rules.specs.Position.{steps}
@@ -30,7 +30,7 @@ chosen_is : (c : tie.After-or) → c.or.result ≡ chosen (or→entry c)
 chosen_is c = c.or.ensures ∙ ap₂ or_mark (or→list-last c).list-last.ensures (or→list-start c).list-start.ensures
 
 -- the rule, as the steps that are left of it
-abbrev plan : tie.Start → Input → List Rule
+abbrev plan : tie.Start → Tables → List Rule
 plan b t =
     (λ n d. spec.start_around (flat n) (source_of t) ItemCmd (option_of (chosen b)))
     ∷ (λ n d. spec.eat (flat n) (source_of t))

@@ -3,7 +3,7 @@ use mathlib.Core.Path.{refl}
 use mathlib.Core.List.{List, [], ◌∷◌}
 use Prim.Native.Nat.{ℕ, ◌<◌}
 use borrow.Author.Rules.{rules}
-use Rattle.syntax.specs.Input.{Input, source_of}
+use Rattle.rules.specs.Checks.{Tables, source_of}
 use Rattle.rules.specs.Flat.{flat, reason_opener}
 use Rattle.rules.specs.Position.{steps}
 use Rattle.rules.specs.Routines as spec
@@ -26,7 +26,7 @@ abbrev Given : tie.Start → Buffers
 Given b = buffers b.args.tree.now b.args.dropped.now
 
 -- the rule, as the steps that are left of it
-abbrev plan : tie.Start → Input → List Rule
+abbrev plan : tie.Start → Tables → List Rule
 plan b t =
     node_around b.args.kind b.args.p
     ((λ n d. spec.drop_next (flat n) (source_of t) reason_opener) ∷ (λ n d. skipping (source_of t) n) ∷ [])
@@ -41,7 +41,7 @@ unfolding spec.skipped_body steps line
 started c = node_begins (λ t n d. refl) (λ t. starts refl c.start-node.ensures) c.start-node.auto.1.0 refl
 
 -- the node's start reads nothing: the opener is still next
-still : (c : tie.After-opened) (t : Input) → Tokens (opened→entry c).args.tokens t → c.opened.given.0.0.lexer.token < token_count t.tokens
+still : (c : tie.After-opened) (t : Tables) → Tokens (opened→entry c).args.tokens t → c.opened.given.0.0.lexer.token < token_count t.tokens
 still c t seen =
     let s = known-somehow (opened→entry c).requires.1 in
     rw seen (still_there s (opened→start-node c).start-node.ensures c.opened.given.1 (opened→entry c).requires.0)

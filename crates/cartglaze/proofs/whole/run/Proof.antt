@@ -1,6 +1,6 @@
 -- `whole::run` meets its contract: each way out is one of the run's cases, and what the calls before it gave is what that case asks. Assumes nothing.
 use borrow.Author.Rules.{rules}
-use Rattle.cartglaze.proofs.Ways.{refused-before, readable, read-by_number}
+use Rattle.cartglaze.proofs.Ways.{refused-before, readable, accepted, refused-while}
 use Rattle.cartglaze.proofs.whole.run.Statement.{statement}
 use Rattle.cartglaze.proofs.whole.run.Tie as tie
 
@@ -12,7 +12,9 @@ run_spec =
     -- refused by a check
     (λ c. search refused-before)
     (λ c. search rules)
-    -- what `read` requires
+    -- what `parse` requires
     (λ c κs. search readable)
+    (λ c. search rules) (λ c. search rules) (λ c κs. search rules) (λ c κs. search rules) (λ c. search rules) (λ c. search rules)
+    (λ c. search accepted)
     (λ c. search rules) (λ c. search rules)
-    (λ c. search read-by_number))
+    (λ c. search refused-while))

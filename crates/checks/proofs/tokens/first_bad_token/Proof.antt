@@ -9,11 +9,10 @@ use Rattle.checks.proofs.tokens.first_bad_token.Statement.{statement}
 use Rattle.checks.proofs.tokens.first_bad_token.Tie as tie
 
 abbrev invariant-loop : tie.invariant-loop
-invariant-loop text tokens shapes by_names count token₀ token =
-    (count ≡ token_count tokens) × RightBefore (token_row by_names text tokens shapes) (token_count tokens) token
+invariant-loop text tokens shapes count token₀ token = (count ≡ token_count tokens) × RightBefore (token_row text tokens shapes) (token_count tokens) token
 
 abbrev decreases-loop : tie.decreases-loop
-decreases-loop text tokens shapes by_names count token₀ token = count - token
+decreases-loop text tokens shapes count token₀ token = count - token
 
 pub first-bad-token-spec : {M : Type 1} → statement M
 first-bad-token-spec =

@@ -3,7 +3,7 @@ use mathlib.Core.Path.{◌≡◌, refl}
 use mathlib.Core.List.{List, [], ◌∷◌}
 use Prim.Native.Nat.{ℕ}
 use borrow.Author.Rules.{rules}
-use Rattle.syntax.specs.Input.{Input, source_of}
+use Rattle.rules.specs.Checks.{Tables, source_of}
 use Rattle.rules.specs.Flat.{flat}
 use Rattle.rules.specs.Position.{steps}
 use Rattle.rules.specs.Routines as spec
@@ -20,14 +20,14 @@ use Rattle.clauses.proofs.argument.character.Tie as tie
 mod At
 use At.*
 
-abbrev Sees : tie.Start → Input → Type 0
+abbrev Sees : tie.Start → Tables → Type 0
 Sees b = LeftOf b.args.tokens b.args.word b.args.p
 
 abbrev Given : tie.Start → Buffers
 Given b = buffers b.args.tree.now b.args.dropped.now
 
 -- the rule, as the steps that are left of it
-abbrev plan : tie.Start → Input → List Rule
+abbrev plan : tie.Start → Tables → List Rule
 plan b t =
     (λ n d. spec.argument_begins (flat n) (source_of t))
     ∷ (λ n d. spec.single_char (flat n) (source_of t))

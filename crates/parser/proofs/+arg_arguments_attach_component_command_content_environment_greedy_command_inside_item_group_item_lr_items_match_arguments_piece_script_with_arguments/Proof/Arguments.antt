@@ -5,7 +5,7 @@ use borrow.Author.Rules.{rules}
 use mathlib.Core.Path.{◌≡◌, sym, ap, ◌∙◌}
 use native.Mathlib.Omega.{arith}
 use lib.ListN.{length, drop}
-use Rattle.syntax.specs.Input.{Input}
+use Rattle.rules.specs.Checks.{Tables}
 use Rattle.rules.specs.Matcher.{not_accepted, whole, term, match_next}
 use Rattle.rules.proofs.Characters.{char_fits}
 use Rattle.lexer.specs.Reading.{peeked_of}
@@ -29,8 +29,8 @@ use Loops.*
 mod At
 use At.*
 
-abbrev T : {t : ℕ} → Start t → Input
-T b = given b.args.text b.args.tokens b.args.shapes b.args.states b.args.settings
+abbrev T : {t : ℕ} → Start t → Tables
+T b = given b.args.text b.args.tokens b.args.shapes b.args.states
 
 abbrev M : {t : ℕ} → Start t → Buffers
 M b = lent b.args.tree b.args.dropped

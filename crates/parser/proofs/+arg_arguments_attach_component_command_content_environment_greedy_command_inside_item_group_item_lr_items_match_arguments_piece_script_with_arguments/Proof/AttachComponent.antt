@@ -6,7 +6,7 @@ use mathlib.Core.List.{List, [], ◌∷◌}
 use mathlib.Core.Logic.{◌⊎◌, inl, inr, ⊎_elim}
 use mathlib.Core.Path.{◌≡◌, refl, sym, ap, subst, ◌∙◌}
 use native.Mathlib.Omega.{arith}
-use Rattle.syntax.specs.Input.{Input, source_of}
+use Rattle.rules.specs.Checks.{Tables, source_of}
 use Rattle.rules.specs.Flat.{flat}
 use Rattle.rules.specs.Outcome.{Out}
 use Rattle.rules.specs.Position as position
@@ -36,14 +36,14 @@ use At.*
 
 -- ---- what the rule comes to, by the script and the last mark
 
-abbrev attachRule : Input → Bool → Rule
+abbrev attachRule : Tables → Bool → Rule
 attachRule t has-script n d = spec.attach_component (flat n) (source_of t) (inner_at t n d) has-script
 
 -- around what stands from a mark on
-abbrev nodeRule : Input → Bool → Mark → Rule
+abbrev nodeRule : Tables → Bool → Mark → Rule
 nodeRule t has-script at n d = spec.attachment_at (flat n) (source_of t) (inner_at t n d) has-script (option_of at)
 
-module _ (t : Input) (n d : ℕ) (q : Here) where
+module _ (t : Tables) (n d : ℕ) (q : Here) where
   -- the rule, from a mark that the code has
   abbrev toMark : Bool → Mark → Out Here
   toMark has-script at = spec.attach_to (flat n) (source_of t) (inner_at t n d) has-script (option_of at) q
@@ -65,7 +65,7 @@ module _ (t : Input) (n d : ℕ) (q : Here) where
 abbrev last_of : Parser → Mark
 last_of p = mark_in p.list.last
 
-module _ (t : Input) (has-script : Bool) (p : Parser) (m : Buffers) (n d : ℕ) where
+module _ (t : Tables) (has-script : Bool) (p : Parser) (m : Buffers) (n d : ℕ) where
   from_last : attachRule t has-script n d (pos_of p m) ≡ toMark t n d (pos_of p m) has-script (last_of p)
   unfolding spec.attach_component
   from_last = ap (λ at. spec.attach_to (flat n) (source_of t) (inner_at t n d) has-script at (pos_of p m)) (sym (taken_is p.list.last))
@@ -79,8 +79,8 @@ module _ (t : Input) (has-script : Bool) (p : Parser) (m : Buffers) (n d : ℕ) 
 
 -- ---- what is known at the places
 
-abbrev T : {t : ℕ} → Start t → Input
-T b = given b.args.text b.args.tokens b.args.shapes b.args.states b.args.settings
+abbrev T : {t : ℕ} → Start t → Tables
+T b = given b.args.text b.args.tokens b.args.shapes b.args.states
 
 abbrev M : {t : ℕ} → Start t → Buffers
 M b = lent b.args.tree b.args.dropped

@@ -8,7 +8,7 @@ use mathlib.Core.List.{[], ◌∷◌}
 use mathlib.Core.Option.{none}
 use mathlib.Core.Path.{◌≡◌, refl, sym, ap, ◌∙◌}
 use native.Mathlib.Omega.{arith}
-use Rattle.syntax.specs.Input.{Input, source_of}
+use Rattle.rules.specs.Checks.{Tables, source_of}
 use Rattle.rules.specs.Flat.{flat}
 use Rattle.rules.specs.Items.{of_class, class_command, name_only}
 use Rattle.rules.specs.Matcher.{is_greedy, start_match, form_left1, form_infix_greedy}
@@ -43,11 +43,11 @@ use At.*
 
 -- ---- what the rule comes to, by the shape s that the code has
 
-abbrev commandRule : Input → Parser → Rule
+abbrev commandRule : Tables → Parser → Rule
 commandRule t p n d = spec.command_of (flat n) (source_of t) (inner_at t n d) (shape_in t class_command p)
 
 -- a greedy command around what stands from a mark on
-abbrev greedyRule : Input → Mark → Rule
+abbrev greedyRule : Tables → Mark → Rule
 greedyRule t at n d = spec.greedy_command (flat n) (source_of t) (inner_at t n d) (option_of at)
 
 -- none of the first three arms is its
@@ -56,7 +56,7 @@ record Plain (s : position.Shape) : Type 0 where
   no-left : eqb s.form form_left1 ≡ false
   no-infix : eqb s.form form_infix_greedy ≡ false
 
-module _ {t : Input} {p : Parser} {m : Buffers} {s : position.Shape} (is : shape_in t class_command p ≡ s) where
+module _ {t : Tables} {p : Parser} {m : Buffers} {s : position.Shape} (is : shape_in t class_command p ≡ s) where
   module _ {r : Step} {v : Buffers} where
     name-alone : name_only s ≡ true → Runs t 1 (λ n d. routine.one_in (flat n) (source_of t) kinds.ItemCmd (pos_of p m)) p m r v
         → Runs t 1 (λ n d. commandRule t p n d (pos_of p m)) p m r v
@@ -95,14 +95,14 @@ module _ {t : Input} {p : Parser} {m : Buffers} {s : position.Shape} (is : shape
       (λ n d. ap (λ mark. went (position.with_marks (flat n) none mark (pos_of p m))) (sym (kept_again last)))
 
 -- the mark that it wraps from is good in the state that it hands on
-start-ok : {t : Input} {p : Parser} {m : Buffers} {start : Mark} {last : KeptMark} {q : Parser} → Ready t p m → start ≡ mark_in p.list.start
+start-ok : {t : Tables} {p : Parser} {m : Buffers} {start : Mark} {last : KeptMark} {q : Parser} → Ready t p m → start ≡ mark_in p.list.start
     → q ≡ remarked p no_mark last → MarkOk (kept_of start) q.builder
 start-ok {p = p} ready start_is q-is = rw (start_is, q-is) (taken_ok p.list.start p.builder ready.steady.start)
 
 -- ---- what is known at the places
 
-abbrev T : {t : ℕ} → Start t → Input
-T b = given b.args.text b.args.tokens b.args.shapes b.args.states b.args.settings
+abbrev T : {t : ℕ} → Start t → Tables
+T b = given b.args.text b.args.tokens b.args.shapes b.args.states
 
 abbrev M : {t : ℕ} → Start t → Buffers
 M b = lent b.args.tree b.args.dropped
@@ -112,7 +112,7 @@ shape_at c = c.of-class.result
 
 shaped : {t : ℕ} (c : Place lts.After-of-class t)
     → shape_in (T (of-class→entry c)) class_command (of-class→entry c).args.p ≡ shape_for (shape_at c)
-shaped c = sym (c.of-class.ensures ∙ ap (of_class class_command) ((of-class→of-token c).of-token.ensures.is _ _))
+shaped c = sym (c.of-class.ensures ∙ ap (of_class class_command) ((of-class→of-token c).of-token.ensures _ _))
 
 named : {t : ℕ} (c : Place lts.Else1 t) → name_only (shape_for (shape_at (else1→of-class c))) ≡ false
 named c = sym (else1→name-only c).name-only.ensures ∙ c.if1.false

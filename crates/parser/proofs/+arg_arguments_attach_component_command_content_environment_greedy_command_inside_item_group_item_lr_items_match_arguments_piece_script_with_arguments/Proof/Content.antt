@@ -9,7 +9,7 @@ use mathlib.Core.Logic.{◌⊎◌, inl, inr, ⊎_elim}
 use mathlib.Core.Path.{◌≡◌, refl, sym, ap, ◌∙◌}
 use native.Mathlib.Omega.{arith}
 use types.Run.{OneOf}
-use Rattle.syntax.specs.Input.{Input, source_of}
+use Rattle.rules.specs.Checks.{Tables, source_of}
 use Rattle.rules.specs.Flat.{flat}
 use Rattle.rules.specs.Items.{item_of}
 use Rattle.rules.specs.Reading as spec
@@ -56,14 +56,14 @@ text-item (Skipped node) h = other_tag 9 refl h
 
 -- ---- what the rule comes to, by the item that the code has
 
-abbrev contentRule : Input → Rule
+abbrev contentRule : Tables → Rule
 contentRule t n d = spec.content (flat n) (source_of t) (inner_at t n d) false
 
-abbrev itemRule : Input → Item → Rule
+abbrev itemRule : Tables → Item → Rule
 itemRule t item n d = spec.read_item (flat n) (source_of t) (inner_at t n d) false (item_for item)
 
 -- in an arm the item is known
-arm : {t : Input} {item known : Item} {p : Parser} {m : Buffers} {r : Step} {v : Buffers} → Next t p
+arm : {t : Tables} {item known : Item} {p : Parser} {m : Buffers} {r : Step} {v : Buffers} → Next t p
     → item_for item ≡ item_of (kind_at t.tokens p.lexer.token) → item ≡ known
     → Runs t 1 (λ n d. itemRule t known n d (pos_of p m)) p m r v → Runs t 1 (λ n d. contentRule t n d (pos_of p m)) p m r v
 unfolding spec.content
@@ -73,8 +73,8 @@ arm {t} {p = p} there is e k =
 
 -- ---- what is known at the places
 
-abbrev T : {t : ℕ} → Start t → Input
-T b = given b.args.text b.args.tokens b.args.shapes b.args.states b.args.settings
+abbrev T : {t : ℕ} → Start t → Tables
+T b = given b.args.text b.args.tokens b.args.shapes b.args.states
 
 abbrev M : {t : ℕ} → Start t → Buffers
 M b = lent b.args.tree b.args.dropped

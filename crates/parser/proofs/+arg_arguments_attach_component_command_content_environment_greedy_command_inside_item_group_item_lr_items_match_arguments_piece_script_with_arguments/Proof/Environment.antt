@@ -4,7 +4,7 @@ use borrow.Author.Rules.{rules}
 use mathlib.Core.List.{List}
 use mathlib.Core.Path.{◌≡◌, refl, sym, ap, ◌∙◌}
 use native.Mathlib.Omega.{arith}
-use Rattle.syntax.specs.Input.{Input, source_of}
+use Rattle.rules.specs.Checks.{Tables, source_of}
 use Rattle.rules.specs.Flat.{flat}
 use Rattle.rules.specs.Items.{of_class, class_environment}
 use Rattle.rules.specs.Position.{steps}
@@ -29,8 +29,8 @@ use cycle.Proof.Measures as measures
 mod At
 use At.*
 
-abbrev T : {t : ℕ} → Start t → Input
-T b = given b.args.text b.args.tokens b.args.shapes b.args.states b.args.settings
+abbrev T : {t : ℕ} → Start t → Tables
+T b = given b.args.text b.args.tokens b.args.shapes b.args.states
 
 abbrev rule : {t : ℕ} → Start t → Rule
 rule b n d = spec.environment_item (flat n) (source_of (T b)) (inner_at (T b) n d)
@@ -54,7 +54,7 @@ started c =
 -- the shape that the code has is the rule's
 shaped : {t : ℕ} (c : Place lts.After-of-class t)
     → shape_in (T (of-class→entry c)) class_environment (of-class→opened c).opened.given.0.0 ≡ shape_for c.of-class.result
-shaped c = sym (c.of-class.ensures ∙ ap (of_class class_environment) ((of-class→of-token c).of-token.ensures.is _ _))
+shaped c = sym (c.of-class.ensures ∙ ap (of_class class_environment) ((of-class→of-token c).of-token.ensures _ _))
 
 named : {t : ℕ} (c : Place lts.After-with-arguments t)
     → Turned (with-arguments→entry c) 2 1 1 c.with-arguments.result (of_tree c.with-arguments.new) (of_dropped c.with-arguments.new)

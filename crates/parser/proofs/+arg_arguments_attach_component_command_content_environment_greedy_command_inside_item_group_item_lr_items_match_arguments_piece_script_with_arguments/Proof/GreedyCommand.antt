@@ -6,7 +6,7 @@ use mathlib.Core.List.{List, [], ◌∷◌}
 use mathlib.Core.Path.{refl, ◌∙◌}
 use native.Mathlib.Omega.{arith}
 use lib.ListN.{drop}
-use Rattle.syntax.specs.Input.{Input, source_of}
+use Rattle.rules.specs.Checks.{Tables, source_of}
 use Rattle.rules.specs.Flat.{flat}
 use Rattle.rules.specs.Position as position
 use Rattle.rules.specs.Position.{steps}
@@ -31,14 +31,14 @@ mod At
 use At.*
 
 -- a step that is walked itself was refused, and so is the rule that it is a step of
-stops-within : {t : Input} {rule f : Rule} {rest more : List Rule} {gain lift gain2 lift2 scope scope2 any : ℕ}
+stops-within : {t : Tables} {rule f : Rule} {rest more : List Rule} {gain lift gain2 lift2 scope scope2 any : ℕ}
     {s : Parser} {m : Buffers} {u : Parser} {v : Buffers} {r : Step} {x : Buffers}
     → Walk t rule (f ∷ rest) gain lift scope s m u v → Turn t f more gain2 lift2 scope2 u v r x → Stopped r
     → Runs t any (λ n d. rule n d (pos_of s m)) s m r x
 stops-within w inner stopped = stops w (runs (inner.refused {any = 0} stopped)) stopped
 
-abbrev T : {t : ℕ} → Start t → Input
-T b = given b.args.text b.args.tokens b.args.shapes b.args.states b.args.settings
+abbrev T : {t : ℕ} → Start t → Tables
+T b = given b.args.text b.args.tokens b.args.shapes b.args.states
 
 -- the rule's step that takes all
 abbrev takes : {t : ℕ} → Start t → Rule

@@ -4,7 +4,7 @@ use borrow.Author.Rules.{rules}
 use mathlib.Core.Bool.{true}
 use mathlib.Core.Path.{◌≡◌, sym, ◌∙◌}
 use native.Mathlib.Omega.{arith}
-use Rattle.syntax.specs.Input.{Input}
+use Rattle.rules.specs.Checks.{Tables}
 use Rattle.state.specs.Stands.{Buffers}
 use Rattle.parser.specs.Member.{Next, buffers, given, lent}
 use Rattle.parser.proofs.ItemLoop.{Turned, asks, loop_begins, loop_turned, loop_there, loop_stops, loop_goes_on, loop_less, loop_ends}
@@ -18,8 +18,8 @@ use Loops.*
 mod At
 use At.*
 
-abbrev T : {t : ℕ} → Start t → Input
-T b = given b.args.text b.args.tokens b.args.shapes b.args.states b.args.settings
+abbrev T : {t : ℕ} → Start t → Tables
+T b = given b.args.text b.args.tokens b.args.shapes b.args.states
 
 abbrev M : {t : ℕ} → Start t → Buffers
 M b = lent b.args.tree b.args.dropped

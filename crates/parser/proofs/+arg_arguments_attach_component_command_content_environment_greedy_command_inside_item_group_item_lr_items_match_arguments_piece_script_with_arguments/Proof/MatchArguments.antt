@@ -7,7 +7,7 @@ use mathlib.Core.Option.{none}
 use mathlib.Core.Path.{◌≡◌, refl, sym, ap, ap₂, ◌∙◌}
 use native.Mathlib.Omega.{arith}
 use lib.ListN.{drop}
-use Rattle.syntax.specs.Input.{Input, source_of}
+use Rattle.rules.specs.Checks.{Tables, source_of}
 use Rattle.rules.specs.Flat.{flat}
 use Rattle.rules.specs.Items.{name_only}
 use Rattle.rules.specs.Matcher.{Matcher, is_greedy, start_match}
@@ -43,7 +43,7 @@ use At.*
 
 -- ---- what the rule comes to, by the shape s that the code has
 
-abbrev argumentsRule : Input → Shape → Rule
+abbrev argumentsRule : Tables → Shape → Rule
 argumentsRule t s n d = spec.arguments_of (flat n) (source_of t) (inner_at t n d) (shape_for s)
 
 -- start is as it was in p, and last is empty
@@ -51,7 +51,7 @@ abbrev giving : Parser → Rule
 giving p n d q = went (position.with_marks (flat n) (mark_of p.list.start) none q)
 
 -- where a matcher takes the arguments, the steps that are left of the rule
-abbrev plan : Input → Parser → Matcher → List Rule
+abbrev plan : Tables → Parser → Matcher → List Rule
 plan t p x =
     (λ n d q. went (position.with_marks (flat n) none none q))
     ∷ (λ n d q. went (position.holding_none (flat n) q))
@@ -59,7 +59,7 @@ plan t p x =
     ∷ giving p
     ∷ []
 
-module _ {t : Input} {p : Parser} {m : Buffers} (s : Shape) where
+module _ {t : Tables} {p : Parser} {m : Buffers} (s : Shape) where
   none_read : name_only (shape_for s) ≡ true → Ready t p m → {q : Parser} → q ≡ unheld p
       → Runs t 0 (λ n d. argumentsRule t s n d (pos_of p m)) p m (Went q) m
   unfolding spec.arguments_of line
@@ -94,8 +94,8 @@ module _ {t : Input} {p : Parser} {m : Buffers} (s : Shape) where
 
 -- ---- what is known at the places
 
-abbrev T : {t : ℕ} → Start t → Input
-T b = given b.args.text b.args.tokens b.args.shapes b.args.states b.args.settings
+abbrev T : {t : ℕ} → Start t → Tables
+T b = given b.args.text b.args.tokens b.args.shapes b.args.states
 
 abbrev M : {t : ℕ} → Start t → Buffers
 M b = lent b.args.tree b.args.dropped

@@ -2,7 +2,6 @@
 -- each other in one node the caller has the higher rank.
 use Prim.Native.Nat.{ℕ, ◌<◌, ◌+◌, ◌*◌, ◌-◌}
 use mathlib.Core.List.{List, ◌++◌}
-use lib.ListN.{take}
 use borrow.Fn.Kinds.{In, ParamKind}
 use borrow.Fn.PlainCycle.{Measures, is, falls, and}
 use Rattle.rules.specs.Limits.{nodes}
@@ -18,9 +17,9 @@ pub record Member (ps : List (ParamKind 6)) : Type 1 where
 abbrev ranks : ℕ
 ranks = 6
 
--- each member takes the tables, the buffers and the parser's state first, and then what is its own, and the settings
+-- each member takes the tables, the buffers and the parser's state; some take more
 abbrev Kinds : List (ParamKind 6) → List (ParamKind 6)
-Kinds more = take 7 fn.command.Kinds.ps ++ more
+Kinds more = fn.command.Kinds.ps ++ more
 
 abbrev measure : (more : List (ParamKind 6)) → ℕ → Measures 6 (Kinds more) ℕ
 measure more rank κs a = (nodes - a.1.1.1.1.1.1.0.builder.depth) * ranks + rank

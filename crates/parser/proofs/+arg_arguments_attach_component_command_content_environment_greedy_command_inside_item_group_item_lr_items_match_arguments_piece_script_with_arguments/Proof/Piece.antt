@@ -3,7 +3,7 @@ use Prim.Native.Nat.{ℕ}
 use borrow.Author.Rules.{rules}
 use mathlib.Core.Path.{◌≡◌, refl}
 use native.Mathlib.Omega.{arith}
-use Rattle.syntax.specs.Input.{Input, source_of}
+use Rattle.rules.specs.Checks.{Tables, source_of}
 use Rattle.rules.specs.Flat.{flat}
 use Rattle.rules.specs.Reading as spec
 use Rattle.items.specs.Items.{piece_for}
@@ -24,11 +24,11 @@ use cycle.Proof.Measures as measures
 mod At
 use At.*
 
-abbrev pieceRule : Input → Piece → Rule
+abbrev pieceRule : Tables → Piece → Rule
 pieceRule t what n d = spec.piece (flat n) (source_of t) (spec.content (flat n) (source_of t) (inner_at t n d)) (piece_for what)
 
 -- in an arm the piece is known
-arm : {t : Input} {what known : Piece} {p : Parser} {m : Buffers} {r : Step} {v : Buffers} → what ≡ known
+arm : {t : Tables} {what known : Piece} {p : Parser} {m : Buffers} {r : Step} {v : Buffers} → what ≡ known
     → Runs t 1 (λ n d. pieceRule t known n d (pos_of p m)) p m r v → Runs t 1 (λ n d. pieceRule t what n d (pos_of p m)) p m r v
 arm e k = rw e k
 

@@ -5,7 +5,7 @@ use mathlib.Core.Bool.{Bool, true, false, not, false≢true, true≢false}
 use mathlib.Core.List.{List, [], ◌∷◌}
 use mathlib.Core.Path.{◌≡◌, refl, sym, ◌∙◌}
 use native.Mathlib.Omega.{arith}
-use Rattle.syntax.specs.Input.{Input, source_of}
+use Rattle.rules.specs.Checks.{Tables, source_of}
 use Rattle.rules.specs.Cursor.{peek}
 use Rattle.rules.specs.Flat.{flat}
 use Rattle.rules.specs.Position.{steps, asked}
@@ -34,28 +34,28 @@ use At.*
 
 -- ---- what is left of the rule, test by test
 
-abbrev scriptRule : Input → Bool → Rule
+abbrev scriptRule : Tables → Bool → Rule
 scriptRule t has-script n d = spec.script (flat n) (source_of t) (spec.content (flat n) (source_of t) (inner_at t n d)) has-script
 
-abbrev triviaRule : Input → Rule
+abbrev triviaRule : Tables → Rule
 triviaRule t n d = routine.trivia (flat n) (source_of t)
 
 -- an item; the Bool says whether one character of a Word is enough
-abbrev itemRule : Input → Bool → Rule
+abbrev itemRule : Tables → Bool → Rule
 itemRule t single n d = spec.content (flat n) (source_of t) (inner_at t n d) single
 
-abbrev characterRule : Input → Rule
+abbrev characterRule : Tables → Rule
 characterRule t n d = routine.single_char (flat n) (source_of t)
 
 -- the walk of a rule, where it reads in the node that is open
-abbrev Came : Input → Rule → List Rule → Parser → Buffers → Parser → Buffers → Type 0
+abbrev Came : Tables → Rule → List Rule → Parser → Buffers → Parser → Buffers → Type 0
 Came t rule rest p m u v = Walk t rule rest 0 0 p.list.scope p m u v
 
 -- a Word is next, or something else
-abbrev WordNext : Input → Parser → Bool → Type 0
+abbrev WordNext : Tables → Parser → Bool → Type 0
 WordNext t u is = asked is_word (peek t.tokens (cursor_of u.lexer)) ≡ is
 
-module _ {t : Input} {p : Parser} {m : Buffers} where
+module _ {t : Tables} {p : Parser} {m : Buffers} where
   no-script : (has-script : Bool) → not has-script ≡ true → Ready t p m → Came t (scriptRule t has-script) [] p m p m
   unfolding spec.script line
   no-script false e ready = begins ready (λ n d. refl)
@@ -96,8 +96,8 @@ module _ {t : Input} {p : Parser} {m : Buffers} where
 
 -- ---- what is known at the places
 
-abbrev T : {t : ℕ} → Start t → Input
-T b = given b.args.text b.args.tokens b.args.shapes b.args.states b.args.settings
+abbrev T : {t : ℕ} → Start t → Tables
+T b = given b.args.text b.args.tokens b.args.shapes b.args.states
 
 abbrev M : {t : ℕ} → Start t → Buffers
 M b = lent b.args.tree b.args.dropped

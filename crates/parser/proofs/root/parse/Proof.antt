@@ -5,7 +5,7 @@ use Prim.Native.Nat.{ℕ}
 use native.Mathlib.Omega.{arith}
 use borrow.Author.Rules.{rules}
 use lib.ListN.{drop}
-use Rattle.syntax.specs.Input.{Input, together, source_of}
+use Rattle.rules.specs.Checks.{Tables, source_of}
 use Rattle.rules.specs.Scope
 use Rattle.rules.specs.Flat.{flat}
 use Rattle.rules.specs.Position as position
@@ -19,7 +19,7 @@ use Rattle.state.specs.Stands.{Buffers}
 use Rattle.state.specs.declared.Parser.{Parser}
 use Rattle.state.specs.declared.Step.{Step}
 use Rattle.state.proofs.Walk.{line, Walk, Call, passes, closes}
-use Rattle.parser.specs.Member.{buffers}
+use Rattle.parser.specs.Member.{tables, buffers}
 use Rattle.parser.specs.Root.{at_root}
 use Rattle.parser.proofs.Cycle.{below}
 use Rattle.parser.proofs.FromRoot.{plan, root-steady, roots, root-refused, parsed_refused, parsed}
@@ -29,8 +29,8 @@ use Rattle.parser.proofs.root.parse.Tie as tie
 mod At
 use At.*
 
-abbrev T : tie.Start → Input
-T b = together b.args.text.now b.args.tokens.now b.args.shapes.now b.args.states.now b.args.settings
+abbrev T : tie.Start → Tables
+T b = tables b.args.text.now b.args.tokens.now b.args.shapes.now b.args.states.now
 
 abbrev M : tie.Start → Buffers
 M b = buffers b.args.tree.now b.args.dropped.now

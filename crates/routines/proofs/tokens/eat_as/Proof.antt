@@ -6,7 +6,7 @@ use native.Mathlib.Nat.{le_refl}
 use native.Mathlib.Omega.{arith}
 use borrow.Author.Rules.{rules}
 use Rattle.rules.specs.Builder.{Leaf}
-use Rattle.syntax.specs.Input.{Input, source_of}
+use Rattle.rules.specs.Checks.{Tables, source_of}
 use Rattle.rules.specs.Cursor.{eaten}
 use Rattle.rules.specs.Flat.{flat}
 use Rattle.rules.specs.Routines.{eat_as}
@@ -37,7 +37,7 @@ leaf c =
     }
 
 -- is the rule's
-leaf-is : (c : tie.After-leaf) (t : Input) → Tokens (leaf→entry c).args.tokens t → (notes : List ℕ) (n : ℕ)
+leaf-is : (c : tie.After-leaf) (t : Tables) → Tokens (leaf→entry c).args.tokens t → (notes : List ℕ) (n : ℕ)
     → eat_as (flat n) (source_of t) (leaf→entry c).args.kind (pos_of (leaf→entry c).args.p (buffers (leaf→entry c).args.tree.now notes))
     ≡ leaf-then (leaf c) eaten n (pos_of (leaf→entry c).args.p (buffers (leaf→entry c).args.tree.now notes))
 leaf-is c t seen notes =

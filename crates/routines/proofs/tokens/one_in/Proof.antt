@@ -3,7 +3,7 @@ use mathlib.Core.Path.{refl}
 use mathlib.Core.List.{List, [], ◌∷◌}
 use Prim.Native.Nat.{ℕ}
 use borrow.Author.Rules.{rules}
-use Rattle.syntax.specs.Input.{Input, source_of}
+use Rattle.rules.specs.Checks.{Tables, source_of}
 use Rattle.rules.specs.Flat.{flat}
 use Rattle.rules.specs.Position.{steps}
 use Rattle.rules.specs.Routines as spec
@@ -18,7 +18,7 @@ mod At
 use At.*
 
 -- the rule, as the steps that are left of it
-abbrev plan : tie.Start → Input → List Rule
+abbrev plan : tie.Start → Tables → List Rule
 plan b t = node_around b.args.kind b.args.p ((λ n d. spec.eat (flat n) (source_of t)) ∷ [])
 
 -- how a call ended: so many steps are done if it went

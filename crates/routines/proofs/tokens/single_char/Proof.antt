@@ -7,7 +7,7 @@ use native.Mathlib.Omega.{arith}
 use borrow.Author.Rules.{rules}
 use Rattle.rules.specs.Characters.{char_length}
 use Rattle.rules.specs.Builder.{Leaf}
-use Rattle.syntax.specs.Input.{Input, source_of}
+use Rattle.rules.specs.Checks.{Tables, source_of}
 use Rattle.rules.specs.Cursor.{Cursor, consumed, peek_text}
 use Rattle.rules.specs.Flat.{flat}
 use Rattle.rules.specs.Routines.{single_char}
@@ -45,7 +45,7 @@ abbrev onto : tie.After-leaf → Cursor → Cursor
 onto c = consumed (leaf→entry c).args.tokens.now (leaf→char-len c).char-len.result
 
 -- both are the rule's
-leaf-is : (c : tie.After-leaf) (t : Input) → LeftOf (leaf→entry c).args.tokens (leaf→entry c).args.word (leaf→entry c).args.p t
+leaf-is : (c : tie.After-leaf) (t : Tables) → LeftOf (leaf→entry c).args.tokens (leaf→entry c).args.word (leaf→entry c).args.p t
     → (notes : List ℕ) (n : ℕ)
     → single_char (flat n) (source_of t) (pos_of (leaf→entry c).args.p (buffers (leaf→entry c).args.tree.now notes))
     ≡ leaf-then (leaf c) (onto c) n (pos_of (leaf→entry c).args.p (buffers (leaf→entry c).args.tree.now notes))
@@ -67,7 +67,7 @@ consume-utf8-bytes-requires c κs =
     (here_of (seen_less (λ t seen. seen.0) pre.1) pre.0.0)
 
 -- the code counts in what it was handed, the rule in its tables
-counted : (t : Input) (tokens word : List ℕ) (was is : Lexer) (size : ℕ)
+counted : (t : Tables) (tokens word : List ℕ) (was is : Lexer) (size : ℕ)
     → is ≡ was → t.tokens ≡ tokens → word ≡ peek_text t.text tokens (cursor_of was) → size ≡ char_length word
     → consumed tokens size (cursor_of is)
     ≡ consumed t.tokens (char_length (peek_text t.text t.tokens (cursor_of was))) (cursor_of was)

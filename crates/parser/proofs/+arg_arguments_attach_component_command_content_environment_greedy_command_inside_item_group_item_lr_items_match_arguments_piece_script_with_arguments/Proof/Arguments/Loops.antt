@@ -6,26 +6,23 @@ use Rattle.arg_match.specs.Answers.{matcher_of}
 use Rattle.state.specs.Contract.{left_of}
 use Rattle.state.specs.Stands.{Buffers}
 use Rattle.state.specs.declared.Parser.{Parser}
-use Rattle.syntax.specs.Input.{together}
-use Rattle.parser.specs.Member.{buffers}
+use Rattle.parser.specs.Member.{tables, buffers}
 use Rattle.parser.proofs.ArgumentLoop.{Far}
 use Rattle.parser.proofs.WordLoop.{Taking}
 
 abbrev pub Inv-loop : lts.invariant-loop
-Inv-loop text tokens shapes states tree₀ dropped₀ settings now₀ matcher₀ kind word₀ tree dropped now matcher word =
-    let t = together text tokens shapes states settings in
+Inv-loop text tokens shapes states tree₀ dropped₀ now₀ matcher₀ kind word₀ tree dropped now matcher word =
+    let t = tables text tokens shapes states in
     (p : Parser) (first : Matcher) (b : Buffers) → Far t p first b now₀ (matcher_of matcher₀) (buffers tree₀ dropped₀)
     → Taking t p first b now₀ now (matcher_of matcher) word (buffers tree dropped)
 
 abbrev pub μ-loop : lts.decreases-loop
-μ-loop text tokens shapes states tree₀ dropped₀ settings now₀ matcher₀ kind word₀ tree dropped now matcher word =
-    left_of (together text tokens shapes states settings) now
+μ-loop text tokens shapes states tree₀ dropped₀ now₀ matcher₀ kind word₀ tree dropped now matcher word =
+    left_of (tables text tokens shapes states) now
 
 abbrev pub Inv-arguments : lts.invariant-arguments
-Inv-arguments text tokens shapes states tree₀ dropped₀ settings now₀ matcher₀ tree dropped now matcher =
-    let t = together text tokens shapes states settings in
-    Far t now₀ (matcher_of matcher₀) (buffers tree₀ dropped₀) now (matcher_of matcher) (buffers tree dropped)
+Inv-arguments text tokens shapes states tree₀ dropped₀ now₀ matcher₀ tree dropped now matcher =
+    Far (tables text tokens shapes states) now₀ (matcher_of matcher₀) (buffers tree₀ dropped₀) now (matcher_of matcher) (buffers tree dropped)
 
 abbrev pub μ-arguments : lts.decreases-arguments
-μ-arguments text tokens shapes states tree₀ dropped₀ settings now₀ matcher₀ tree dropped now matcher =
-    left_of (together text tokens shapes states settings) now
+μ-arguments text tokens shapes states tree₀ dropped₀ now₀ matcher₀ tree dropped now matcher = left_of (tables text tokens shapes states) now

@@ -1,3 +1,0 @@
--- Laws of the table of shapes by name.
-pub mod Only
-pub mod Rows

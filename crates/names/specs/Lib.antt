@@ -1,3 +1,0 @@
--- What the contracts of the lists of names cite.
-pub mod Contract
-pub mod Index
