@@ -21,7 +21,7 @@ use Rattle.rules.specs.Rowan
 use Rattle.rules.specs.Rowan.{Parent, Green, first_of, rowan}
 use Rattle.rules.specs.SyntaxKind.{ScopeRoot}
 use Rattle.rules.specs.Tree.{Tree, Forest, leaf, layout, layouts, forest, node_of}
-use Rattle.rules.proofs.Related.{Relation, OutRel, went~, refused~, cond~, gate~}
+use Rattle.rules.proofs.Related.{Relation, OutRel, went~, refused~, skipped~, cond~, gate~}
 use Rattle.rules.proofs.Render.{laid, render, render_split, render_more, render_open, render_close, render_first}
 use Rattle.rules.proofs.Sim.{Sub, nil, keep, omit, Level, World, node, ◌◂◌, innermost, MarkKeeps, ForgetKeeps, LeafKeeps, StartKeeps, StartAtKeeps, FinishKeeps, EndGives, DropKeeps, Sim}
 use Rattle.rules.proofs.Simulation.{Ended, ended, simulation}
@@ -197,6 +197,7 @@ module _ (room : ℕ) where
       → O Q (on_tree b x) y
   on_tree~ b (went~ h) = went~ h
   on_tree~ b (refused~ number place known) = refused~ number place known
+  on_tree~ b (skipped~ number place _ none) = elim none [ ]
 
   -- ---- a child more
 
@@ -220,9 +221,9 @@ module _ (room : ℕ) where
 
   leafs : LeafKeeps (flat room) (rowan room) NoSkip Known Alike
   unfolding Flat.leaf Flat.leafed Rowan.leafed Rowan.token layout
-  leafs place l top w _ _ (alike {t} {ps} {cs} tied levels) =
+  leafs place l top w _ _ (alike {t} {ps} {cs} {dropped} tied levels) =
       let x = leaf l in
-      on_tree~ _ (room~ place t.rows (went~ (alike
+      on_tree~ (record { tree = t; dropped = dropped }) (room~ place t.rows (went~ (alike
       (record {
         depth = tied.depth;
         children = simp length-append (omega arith);
@@ -241,9 +242,9 @@ module _ (room : ℕ) where
 
   starts : StartKeeps (flat room) (rowan room) NoSkip Known Alike
   unfolding Flat.start Flat.started Rowan.start_node Rowan.pushed
-  starts place kind w _ _ (alike {t} {ps} {cs} tied levels) =
+  starts place kind w _ _ (alike {t} {ps} {cs} {dropped} tied levels) =
       let p = parent kind (length cs) place in
-      on_tree~ _ (deep~ place t ps tied.depth (room~ place t.rows (went~ (alike
+      on_tree~ (record { tree = t; dropped = dropped }) (deep~ place t ps tied.depth (room~ place t.rows (went~ (alike
       (record {
         depth = ap (λ (n : ℕ). n + 1) tied.depth ∙ add-one (length ps);
         children = tied.children;
@@ -257,11 +258,11 @@ module _ (room : ℕ) where
 
   finishes : FinishKeeps (flat room) (rowan room) NoSkip Known Alike
   unfolding Flat.finish Flat.finished Rowan.closed Rowan.finish_node
-  finishes place n live top w _ _ (alike {t} {cs} tied (inside {k} {first} {from} {ps} begun falling levels)) =
+  finishes place n live top w _ _ (alike {t} {cs} {dropped} tied (inside {k} {first} {from} {ps} begun falling levels)) =
       let p = parent k first from in
       let long : length (take first cs) ≡ first = length-take-le first cs begun.high in
       let depth = tied.depth in
-      on_tree~ _ (room~ place t.rows (went~ (alike
+      on_tree~ (record { tree = t; dropped = dropped }) (room~ place t.rows (went~ (alike
       (record {
         depth = omega arith;
         children = simp length-append (omega arith);
@@ -272,8 +273,8 @@ module _ (room : ℕ) where
 
   ends : EndGives (flat room) (rowan room) NoSkip Known Alike Whole
   unfolding Flat.finish Flat.finished Rowan.closed Rowan.finish_node layout
-  ends place f g live _ _ (alike {t} {cs} tied (inside {first} {from} begun falling (outside none))) =
-      on_tree~ _ (room~ place t.rows (went~ (record {
+  ends place f g live _ _ (alike {t} {cs} {dropped} tied (inside {first} {from} begun falling (outside none))) =
+      on_tree~ (record { tree = t; dropped = dropped }) (room~ place t.rows (went~ (record {
         tree = node_of ScopeRoot from place (drop first cs);
         rows = rw (tied.tree, none);
         is = rw none;
@@ -355,9 +356,9 @@ module _ (room : ℕ) where
 
   start_ats : StartAtKeeps (flat room) (rowan room) NoSkip Known Alike
   unfolding Flat.start_at Rowan.start_node_at Rowan.pushed Flat.started_at
-  start_ats place kind _ _ older w _ _ (alike {t} {cs} tied (inside {k} {first} {from} {ps} begun (falls {m} {n} count below row falling) levels)) =
+  start_ats place kind _ _ older w _ _ (alike {t} {cs} {dropped} tied (inside {k} {first} {from} {ps} begun (falls {m} {n} count below row falling) levels)) =
       rw (le-ltb (length cs) n below)
-      (on_tree~ _ (gate~ mark_before_node place (ltb m.children t.first) (ltb n first) (omega arith) (ap₂ ltb count begun.is) (λ e.
+      (on_tree~ (record { tree = t; dropped = dropped }) (gate~ mark_before_node place (ltb m.children t.first) (ltb n first) (omega arith) (ap₂ ltb count begun.is) (λ e.
       let inside = ltb-false m.children t.first e in
       deep~ place t (parent k first from ∷ ps) tied.depth (room~ place t.rows (went~
       (opened place kind tied begun (record { count = count; low = omega arith; high = below; row = row }) falling levels))))))
@@ -398,6 +399,7 @@ as_same : (room : ℕ) {o : FlatRun} {u : RowanRun} → OutRel NoSkip Known (End
 unfolding alike_sim
 as_same room (went~ (ended c h whole)) = both_went refl whole
 as_same room (refused~ number place known) = both_refused number place known
+as_same room (skipped~ number place _ none) = elim none [ ]
 
 -- whatever is read, with whatever room
 pub same-run : (room : ℕ) (source : Source) → SameRun (parse (flat room) source Flat.empty) (parse (rowan room) source Rowan.nothing)

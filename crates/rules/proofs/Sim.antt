@@ -34,7 +34,7 @@ module _ {T : Type 0} where
 
   pub sub_trans : {l k j : List T} → Sub l k → Sub k j → Sub l j
   sub_trans h nil = h
-  sub_trans (keep h) (keep k) = keep (sub_trans h k)
+  sub_trans {l = x ∷ l} (keep h) (keep k) = keep (sub_trans {l = l} h k)
   sub_trans (omit h) (keep k) = omit (sub_trans h k)
   sub_trans h (omit k) = omit (sub_trans h k)
 
