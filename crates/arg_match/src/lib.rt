@@ -1,4 +1,6 @@
 // The argument matcher (arg_match.rs): what a shape accepts as the next argument. The glob string is a state's number.
+#![tactic(auto)]
+
 ghost use Rattle.std.specs.Prelude.{◌≡◌};
 ghost use Rattle.rules.specs.Matcher.{as_term, column, is_greedy, match_next, next_state, start_at_most, start_match};
 ghost use Rattle.arg_match.specs.Answers.{argument_of, matched_of, matcher_of};
@@ -6,7 +8,7 @@ ghost use Rattle.arg_match.specs.Answers.{argument_of, matched_of, matcher_of};
 use syntax::{Form, Limits};
 
 // What comes next, as the matcher sees it: a term, or what `[` or `(` begins (t, b, p).
-#[derive(Drop)]
+#[derive(Clone, Copy)]
 pub enum Argument {
     Term,
     Bracket,
@@ -14,7 +16,7 @@ pub enum Argument {
 }
 
 // What is still accepted.
-#[derive(Drop)]
+#[derive(Clone, Copy)]
 pub enum ArgMatcher {
     // Nothing.
     None,
@@ -28,7 +30,7 @@ pub enum ArgMatcher {
 
 // The answer about what comes next: not accepted, accepted as a whole item, or accepted as a bare token; the last two with the matcher for what
 // comes then.
-#[derive(Drop)]
+#[derive(Clone, Copy)]
 pub enum Matched {
     NotAccepted,
     Whole(ArgMatcher),

@@ -1,6 +1,8 @@
 // Rows of a tree into a lent buffer, in the manner of rowan's GreenNodeBuilder: its numbers go in and come back by value, beside the buffer.
 // Each operation is handed the place, the first token not wholly read. A row has it as its fifth number, but that a leaf has its own token. A refused
 // operation changes nothing.
+#![tactic(auto)]
+
 ghost use Rattle.std.specs.Prelude.{◌≡◌, ◌^◌, ◌<◌, []};
 ghost use Rattle.rules.specs.Flat as flat;
 ghost use Rattle.builder.specs.Stands.{rows_of, mark_of, frame_of};
@@ -15,14 +17,14 @@ use rows::{insert_starts, put};
 use syntax::{Limits, Refusal, SyntaxKind, Tag};
 
 // A mark: how many finished children there were, and the row that was next.
-#[derive(Drop)]
+#[derive(Clone, Copy)]
 pub struct Checkpoint {
     pub children: usize,
     pub row: usize,
 }
 
 // What its parent has to know again once a node is closed: its own first child's count and its start row.
-#[derive(Drop)]
+#[derive(Clone, Copy)]
 pub struct Frame {
     pub first: usize,
     pub node: usize,
@@ -30,7 +32,7 @@ pub struct Frame {
 
 // The builder's numbers: rows and leaves written, nodes open, finished children, and of the innermost open node
 // how many finished children stood before its first, and its start row.
-#[derive(Drop)]
+#[derive(Clone, Copy)]
 pub struct GreenNodeBuilder {
     pub rows: usize,
     pub leaves: usize,
@@ -41,7 +43,7 @@ pub struct GreenNodeBuilder {
 }
 
 // What an operation comes to: the new numbers, or the number and the place of a refusal.
-#[derive(Drop)]
+#[derive(Clone, Copy)]
 pub enum Built {
     Went(GreenNodeBuilder),
     Refused(u32, usize),

@@ -1,4 +1,6 @@
 // The public face: a text's token rows, the run, the questions about the rows that it gives, sheets and the listing of an answer.
+#![tactic(auto)]
+
 mod clear;
 mod whole;
 

@@ -1,5 +1,7 @@
 // Replays the recorded list, `cases.bin` of its data folder, and prints how many cases there are and how many of them differ; then of how many
 // accepted ones the texts were put back, and of how many they are not the token texts.
+#![tactic(auto)]
+
 ghost use Rattle.io.specs.Counts.{IsPrefixLen};
 
 use libc::STDOUT_FILENO;
@@ -22,7 +24,7 @@ fn read_case(fd: i32, case: &mut [u8]) -> usize
 }
 
 // A case's replay, or that there is none left.
-#[derive(Drop)]
+#[derive(Clone, Copy)]
 enum Next {
     End,
     Case(Replayed),

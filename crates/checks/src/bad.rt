@@ -1,5 +1,5 @@
 // The first row of a table that is not right.
-#[derive(Drop)]
+#[derive(Clone, Copy)]
 pub enum Bad {
     Row(usize),
     Nowhere,

@@ -1,4 +1,6 @@
 // What is checked before reading: refusals 1 to 4, each with its place.
+#![tactic(auto)]
+
 mod bad;
 mod limits;
 mod order;

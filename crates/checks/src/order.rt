@@ -10,7 +10,7 @@ use crate::tokens::first_bad_token;
 use syntax::{Limits, Refusal};
 
 // Fine, or a number of refusal and its place.
-#[derive(Drop)]
+#[derive(Clone, Copy)]
 pub enum Checked {
     Fine,
     Refused(u32, usize),

@@ -1,4 +1,6 @@
 // Items with no item inside, and parts of items that have one: texts, delimiters, ends, an argument's node, commands that wrap.
+#![tactic(auto)]
+
 mod argument;
 
 ghost use Rattle.std.specs.Prelude.{◌≡◌};

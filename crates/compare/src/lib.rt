@@ -1,4 +1,6 @@
 // Numbers in buffers compared: whether those of one are those of another.
+#![tactic(auto)]
+
 ghost use Rattle.std.specs.Prelude.{◌≡◌, ◌^◌, ◌≤◌, ◌<◌, length, take};
 ghost use Rattle.rules.specs.Tables.{part};
 ghost use Rattle.compare.specs.Tells.{Tells, AllFrom};

@@ -1,4 +1,6 @@
 // The public face for C and Rust: numbers and slices alone. A slice is a pointer and a length there; `include/cartglaze.h` has the same functions.
+#![tactic(auto)]
+
 mod listing;
 mod number;
 mod sheet;

@@ -6,7 +6,7 @@ ghost use Rattle.ffi.specs.Exported.{handed, not_read, counts_of, Hands};
 use cartglaze::{Sheet, read};
 
 // Whether it is read, and how much each section has; else all of these are 0. `needed` is 0 too unless the numbers have no room.
-#[derive(Drop)]
+#[derive(Clone, Copy)]
 struct Counts {
     read: bool,
     text: usize,

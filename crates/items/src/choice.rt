@@ -10,7 +10,7 @@ use arg_match::{ArgMatcher, Argument, Matched};
 use syntax::{ParseScope, Token};
 
 // How an argument is read.
-#[derive(Drop)]
+#[derive(Clone, Copy)]
 pub enum Piece {
     // A whole group.
     Within(ParseScope),
@@ -20,7 +20,7 @@ pub enum Piece {
     Item,
 }
 
-#[derive(Drop)]
+#[derive(Clone, Copy)]
 pub enum Choice {
     // The arguments end here.
     Ends,

@@ -7,7 +7,7 @@ ghost use Rattle.items.specs.Items.{item_for, shape_for};
 use crate::shape::Shape;
 use syntax::{Class, Limits, ParseScope, SyntaxKind, Token};
 
-#[derive(Drop)]
+#[derive(Clone, Copy)]
 pub enum Item {
     // The token alone.
     Plain,

@@ -1,4 +1,6 @@
 // What an item that begins with a kind of token is (`content` of parser.rs), what a shape asks for, and what the next argument is.
+#![tactic(auto)]
+
 mod choice;
 mod item;
 mod shape;

@@ -12,7 +12,7 @@ use arg_match::ArgMatcher;
 use lexer::{Column, cell};
 use syntax::{Form, Limits};
 
-#[derive(Drop)]
+#[derive(Clone, Copy)]
 pub struct Shape {
     pub class: u32,
     pub form: u32,

@@ -9,21 +9,21 @@ ghost use Rattle.lexer.specs.Fine.{Fine, Here};
 use syntax::Limits;
 
 // The first token not wholly read, and how many bytes of it are taken.
-#[derive(Drop)]
+#[derive(Clone, Copy)]
 pub struct Lexer {
     pub token: usize,
     pub taken: usize,
 }
 
 // The kind of the next token, if there is one.
-#[derive(Drop)]
+#[derive(Clone, Copy)]
 pub enum Peeked {
     Kind(u32),
     End,
 }
 
 // The columns of a token row.
-#[derive(Drop)]
+#[derive(Clone, Copy)]
 pub struct Column;
 
 impl Column {

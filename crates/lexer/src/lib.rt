@@ -1,4 +1,6 @@
 // The characters of a Word, and the cursor over token rows (the lexer's lib.rs).
+#![tactic(auto)]
+
 mod characters;
 mod cursor;
 

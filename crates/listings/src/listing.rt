@@ -9,7 +9,7 @@ use crate::lines::{dropped_lines, head, tree_lines};
 use syntax::Limits;
 
 // Written with so many bytes; or not, for want of a buffer of so many. A listing of 2^64 bytes and more counts for the largest number.
-#[derive(Drop)]
+#[derive(Clone, Copy)]
 pub enum Listed {
     Bytes(usize),
     NoRoom(usize),

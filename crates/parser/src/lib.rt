@@ -1,4 +1,6 @@
 // The cycle of calls: items inside items. Each member comes to what its rule says at every level that is enough for the nodes that may yet be opened.
+#![tactic(auto)]
+
 mod lists;
 mod root;
 

@@ -13,7 +13,7 @@ use syntax::ParseScope;
 
 // How far is read: a new list of a scope, all that a greedy command takes, or one item. That all three go through one loop is only for speed:
 // see that heading in lib.rt.
-#[derive(Drop)]
+#[derive(Clone, Copy)]
 pub enum Extent {
     List(ParseScope),
     Greedy,

@@ -8,7 +8,7 @@ use crate::rows::{Column, cell, tagged};
 use syntax::Tag;
 
 // Where a part of the text starts, and how many bytes it has.
-#[derive(Drop)]
+#[derive(Clone, Copy)]
 pub struct LeafRange {
     pub start: usize,
     pub size: usize,

@@ -7,7 +7,7 @@ ghost use Rattle.rules.specs.Tables.{cell};
 use syntax::Limits;
 
 // The columns of a tree row.
-#[derive(Drop)]
+#[derive(Clone, Copy)]
 pub struct Column;
 
 impl Column {

@@ -7,7 +7,7 @@ use crate::rows::{Column, cell, tagged};
 use syntax::{Limits, SyntaxKind, Tag};
 
 // A row, where there is one.
-#[derive(Drop)]
+#[derive(Clone, Copy)]
 pub enum Found {
     At(usize),
     Nothing,

@@ -11,7 +11,7 @@ use syntax::{Limits, Tag};
 const KINDS: usize = 64;
 
 // Where the bytes behind what is recorded begin, or that it differs.
-#[derive(Drop)]
+#[derive(Clone, Copy)]
 pub enum Compared {
     Same(usize),
     Differs,

@@ -16,7 +16,7 @@ use sheets::{Sections, Sheet, number, read};
 use syntax::Limits;
 
 // What a replay says of a case.
-#[derive(Drop)]
+#[derive(Clone, Copy)]
 pub struct Replayed {
     // Whether the run gave the answer that is recorded.
     pub agrees: bool,

@@ -1,4 +1,6 @@
 // A recorded case is replayed, and what came of the cases is counted.
+#![tactic(auto)]
+
 mod case;
 mod tally;
 

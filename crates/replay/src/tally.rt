@@ -17,7 +17,7 @@ fn is_lost(replayed: Replayed) -> bool
     replayed.accepted && !replayed.returns
 }
 
-#[derive(Drop)]
+#[derive(Clone, Copy)]
 pub struct Tally {
     pub cases: u64,
     // How many of them differ from what is recorded.

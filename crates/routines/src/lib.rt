@@ -1,4 +1,6 @@
 // The parser's routines over tokens and held trivia: what is read becomes leaves, or is dropped.
+#![tactic(auto)]
+
 mod held;
 mod tokens;
 

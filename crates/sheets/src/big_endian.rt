@@ -2,7 +2,7 @@
 ghost use Rattle.std.specs.Prelude.{◌≡◌, ◌+◌, ◌≤◌, ◌<◌, ◌^◌, length, get_or};
 ghost use Rattle.rules.specs.Sheet.{number_at, numbers_at, number_bytes};
 
-#[derive(Drop)]
+#[derive(Clone, Copy)]
 pub struct Bytes;
 
 impl Bytes {

@@ -1,5 +1,7 @@
 // Sheets: a sheet's bytes are read into lent numbers.
 // Any bytes and lengths are taken, and nothing is written where the answer says that it was not.
+#![tactic(auto)]
+
 mod big_endian;
 mod sections;
 mod sheet;

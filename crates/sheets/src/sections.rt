@@ -7,7 +7,7 @@ ghost use Rattle.sheets.specs.Contract.{Placed, Counted};
 use crate::big_endian::{Bytes, byte, number};
 
 // How many bytes the text has, and how many numbers each table.
-#[derive(Drop)]
+#[derive(Clone, Copy)]
 pub struct Sections {
     pub text: usize,
     pub tokens: usize,
@@ -42,7 +42,7 @@ impl Sections {
 }
 
 // Where the length of each table stands, and where the last section ends.
-#[derive(Drop)]
+#[derive(Clone, Copy)]
 pub struct Places {
     pub tokens: usize,
     pub shapes: usize,

@@ -9,7 +9,7 @@ use crate::sections::{Places, Sections, places_of, readable, sections_of};
 
 // What a sheet comes to. Only one that is read writes: the numbers of its tokens, its shapes and its states, one table behind the other.
 // Its text are the bytes from `Sections::TEXT_BYTES` on.
-#[derive(Drop)]
+#[derive(Clone, Copy)]
 pub enum Sheet {
     Read(Sections),
     // Refusal 9.

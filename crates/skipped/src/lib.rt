@@ -1,4 +1,6 @@
 // Bodies that are skipped: `block_comment` and `typst_code`, with `eat_body_of_ifs`.
+#![tactic(auto)]
+
 ghost use Rattle.std.specs.Prelude.{◌≡◌, true, ◌<◌, ◌^◌};
 ghost use Rattle.rules.specs.Flat.{flat};
 ghost use Rattle.rules.specs.Cursor.{peek};

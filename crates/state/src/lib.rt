@@ -1,4 +1,6 @@
 // The parser's state, which goes in and comes back by value beside the lent slices, and the builder's operations on it.
+#![tactic(auto)]
+
 ghost use Rattle.std.specs.Prelude.{◌≡◌, ◌%◌, ◌^◌};
 ghost use Rattle.rules.specs.Flat.{flat};
 ghost use Rattle.rules.specs.Position as spec;
@@ -14,7 +16,7 @@ use lexer::Lexer;
 use syntax::ParseScope;
 
 // `Option<Checkpoint>`.
-#[derive(Drop)]
+#[derive(Clone, Copy)]
 pub enum Mark {
     Nothing,
     At(Checkpoint),
@@ -57,7 +59,7 @@ impl Mark {
 }
 
 // A mark as the state keeps it, in two numbers: row 0 is the root's own start, where no mark is made, so it says that there is none.
-#[derive(Drop)]
+#[derive(Clone, Copy)]
 pub struct KeptMark {
     pub children: usize,
     pub row: usize,
@@ -78,7 +80,7 @@ impl KeptMark {
 }
 
 // A list has a scope, here by its number, a start mark and a last mark.
-#[derive(Drop)]
+#[derive(Clone, Copy)]
 pub struct ListState {
     pub scope: usize,
     pub start: KeptMark,
@@ -109,7 +111,7 @@ fn number(token: usize) -> u32
 }
 
 // What is read, the first held token, the list that is read, the builder's numbers, and how many rows are dropped.
-#[derive(Drop)]
+#[derive(Clone, Copy)]
 pub struct Parser {
     pub lexer: Lexer,
     pub held: usize,
@@ -119,7 +121,7 @@ pub struct Parser {
 }
 
 // What a routine comes to: the new state, or the number and the place of a refusal.
-#[derive(Drop)]
+#[derive(Clone, Copy)]
 pub enum Step {
     Went(Parser),
     Refused(u32, usize),

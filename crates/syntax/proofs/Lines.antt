@@ -3,8 +3,7 @@
 -- is tested are the code's own constants. Assumes nothing.
 use Prim.Native.Nat.{ℕ, suc, ◌+◌, ◌*◌, ◌-◌, ◌≤◌, ◌<◌}
 use lib.ListN.{get_or}
-use mathlib.Core.List.{List, [], ◌∷◌}
-use mathlib.Core.Logic.{◌⊎◌, ⊎_elim}
+use mathlib.Core.List.{List, ◌∷◌}
 use mathlib.Core.Path.{◌≡◌, sym, ◌∙◌, ap}
 use native.Mathlib.Omega.{arith}
 use Rattle.rules.proofs.Table.{grid, at-cell}
@@ -14,24 +13,18 @@ pub record Line (row line k : ℕ) (lines : List ℕ) : Type 0 where
   pub from : k ≤ row
   pub is : line ≡ get_or lines (row - k) 0
 
-module _ {row line k l : ℕ} {A : Type 0} (this : A → (row ≡ k) × (line ≡ l)) where
-  here : (more : List ℕ) → A → Line row line k (l ∷ more)
-  here more a =
-      let found = this a in
-      let none_before : row - k ≡ 0 = omega arith in
-      record { from = omega arith; is = rw none_before found.1 }
+-- the match came by arm k
+pub here : {row line k l : ℕ} {more : List ℕ} → row ≡ k → line ≡ l → Line row line k (l ∷ more)
+here {row} {k = k} e is =
+    let none_before : row - k ≡ 0 = omega arith in
+    record { from = omega arith; is = rw none_before is }
 
-  -- the match came by arm k, or by one behind it
-  pub arm : {more : List ℕ} {B : Type 0} → (B → Line row line (suc k) more) → A ⊎ B → Line row line k (l ∷ more)
-  arm {more} others =
-      ⊎_elim (here more)
-      (λ b.
-      let behind = (others b).from in
-      let one-before : row - k ≡ suc (row - suc k) = omega arith in
-      record { from = omega arith; is = rw one-before (others b).is })
-
-  pub last_arm : A → Line row line k (l ∷ [])
-  last_arm = here []
+-- or by one behind it
+pub behind : {row line k l : ℕ} {more : List ℕ} → Line row line (suc k) more → Line row line k (l ∷ more)
+behind {row} {k = k} later =
+    let from = later.from in
+    let one_before : row - k ≡ suc (row - suc k) = omega arith in
+    record { from = omega arith; is = rw one_before later.is }
 
 -- the rule at one entry, by the test over all: `entry` reads a column off a line
 module _ {A : Type 0} (size width : ℕ) (entry rule : ℕ → ℕ → A) (other : A) where

@@ -1,4 +1,6 @@
 // Kinds, scopes and limits: the numbers of 01 as constants of the types that they belong to, the conversion of a token's kind, and the stop table.
+#![tactic(auto)]
+
 mod limits;
 mod parse_scope;
 mod refusal;

@@ -5,7 +5,7 @@ ghost use Rattle.syntax.specs.ParseScope.{number_of, scope_at, scope_of};
 
 use crate::limits::Limits;
 
-#[derive(Drop)]
+#[derive(Clone, Copy)]
 pub enum ParseScope {
     // The root: nothing stops it.
     Root,

@@ -2,7 +2,7 @@
 ghost use Rattle.std.specs.Prelude.{◌≡◌};
 ghost use Rattle.syntax.specs.Numbers.{tags, reasons};
 
-#[derive(Drop)]
+#[derive(Clone, Copy)]
 pub struct Tag;
 
 impl Tag {
@@ -21,7 +21,7 @@ impl Tag {
 }
 
 // Why a token was dropped.
-#[derive(Drop)]
+#[derive(Clone, Copy)]
 pub struct Reason;
 
 impl Reason {

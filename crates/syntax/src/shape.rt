@@ -2,7 +2,7 @@
 ghost use Rattle.std.specs.Prelude.{◌≡◌};
 ghost use Rattle.syntax.specs.Numbers.{classes, forms};
 
-#[derive(Drop)]
+#[derive(Clone, Copy)]
 pub struct Class;
 
 impl Class {
@@ -18,7 +18,7 @@ impl Class {
     }
 }
 
-#[derive(Drop)]
+#[derive(Clone, Copy)]
 pub struct Form;
 
 impl Form {

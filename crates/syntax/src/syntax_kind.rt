@@ -5,7 +5,7 @@ ghost use Rattle.syntax.specs.Numbers.{syntax_kinds};
 
 use crate::limits::Limits;
 
-#[derive(Drop)]
+#[derive(Clone, Copy)]
 pub struct SyntaxKind;
 
 impl SyntaxKind {

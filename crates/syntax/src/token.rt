@@ -3,7 +3,7 @@ ghost use Rattle.std.specs.Prelude.{◌≡◌};
 ghost use Rattle.rules.specs.Kinds.{is_text_component, is_trivia};
 ghost use Rattle.syntax.specs.Numbers.{token_kinds};
 
-#[derive(Drop)]
+#[derive(Clone, Copy)]
 pub struct Token;
 
 impl Token {

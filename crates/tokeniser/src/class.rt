@@ -3,7 +3,7 @@ ghost use Rattle.std.specs.Prelude.{◌≡◌, ◌≤◌, ◌<◌, length};
 ghost use Rattle.tokeniser.specs.Bytes.{class_of, digit, Tells, Ascii, RunEnds};
 
 // The classes of token.rs's patterns, letters, and what an environment's name is made of.
-#[derive(Drop)]
+#[derive(Clone, Copy)]
 pub enum Class {
     Break,
     Blank,
@@ -14,7 +14,7 @@ pub enum Class {
 }
 
 // A digit for each byte under 128, 1 where the byte is of the class: the last digit of `low` is that of byte 0, the last of `high` that of byte 64.
-#[derive(Drop)]
+#[derive(Clone, Copy)]
 pub struct Bits {
     pub low: u64,
     pub high: u64,

@@ -6,7 +6,7 @@ ghost use Rattle.tokeniser.specs.Names.{number_from};
 use syntax::Token;
 
 // Names as numbers: the bytes are digits to base 256, behind a 1, so that no two names of at most seven bytes have the same.
-#[derive(Drop)]
+#[derive(Clone, Copy)]
 pub struct Name;
 
 impl Name {

@@ -12,7 +12,7 @@ use crate::name::{in_braces, name_end, stands};
 use syntax::Token;
 
 // Its kind, where its text starts and how long it is, and where its source range ends.
-#[derive(Drop)]
+#[derive(Clone, Copy)]
 pub struct Lexeme {
     pub kind: u32,
     pub start: usize,

@@ -11,7 +11,7 @@ ghost use Rattle.tokeniser.specs.Answers.{place_in, tokenised_of};
 use crate::lexeme::{Lexeme, lexeme_at};
 use syntax::{Limits, Refusal};
 
-#[derive(Drop)]
+#[derive(Clone, Copy)]
 pub enum Tokenised {
     Written(usize),
     Refused(u32, usize),

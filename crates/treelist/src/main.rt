@@ -1,4 +1,6 @@
 // Reads one sheet from standard input and writes what is printed of it to standard output. All that matters is in printed.rt and the crates below.
+#![tactic(auto)]
+
 mod printed;
 mod sizes;
 

@@ -7,7 +7,7 @@ ghost use Rattle.rules.specs.Treelist.{tree_rows, dropped_rows, most_numbers, mo
 use sheets::Sections;
 use syntax::Limits;
 
-#[derive(Drop)]
+#[derive(Clone, Copy)]
 pub struct Sizes;
 
 impl Sizes {
