@@ -1,7 +1,7 @@
 -- What the contracts of the builder's functions say.
 use Rattle.std.specs.Prelude.{ℕ, ◌+◌, ◌*◌, ◌-◌, ◌/◌, ◌≤◌, ◌<◌, ◌≡◌, length, take, drop}
 use mathlib.Core.List.{List, [], ◌∷◌, ◌++◌, flatten}
-use Rattle.std.specs.Borrow.{Bor}
+use Rattle.std.specs.Borrow.{MutBor}
 use denote.Triple.Both.{Both}
 use Rattle.rules.specs.Limits
 use Rattle.rules.specs.Flat.{Rows, with_token, start_row, start_at_row}
@@ -53,7 +53,7 @@ pub record Did (want : ℕ → Out Rows) (t : List ℕ) (r : Built) (v : List �
 
 -- a lent buffer as an `ensures` has it, at the entry and at the exit
 abbrev pub Lent : Type 0
-Lent = Both (Bor (List ℕ)) (Bor (List ℕ))
+Lent = Both (MutBor (List ℕ)) (MutBor (List ℕ))
 
 -- an operation on the builder's numbers and its buffer goes by a rule of the rows, which takes the buffer's length
 abbrev pub Goes : (rule : ℕ → Rows → Out Rows) (b : GreenNodeBuilder) (tree : Lent) (r : Built) → Type 0
