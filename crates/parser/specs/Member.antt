@@ -14,7 +14,7 @@ use Rattle.rules.specs.Scope.{Scope, stops}
 use Rattle.rules.specs.Tables.{token_count, shape_at}
 use Rattle.state.specs.Stands.{Buffers, Here, pos_of, mark_at, kept_of, mark_in, no_mark}
 use Rattle.state.specs.Change.{relisted, remarked}
-use Rattle.state.specs.Contract.{Runs, Slice, Moments}
+use Rattle.state.specs.Contract.{Runs, Slice, Seen, Moments}
 pub use Rattle.state.specs.Contract.{buffers, lent}
 use Rattle.state.specs.declared.KeptMark.{KeptMark}
 use Rattle.syntax.specs.ParseScope.{number_of, scope_of}
@@ -49,13 +49,13 @@ abbrev pub given : Slice → Slice → Slice → Slice → Tables
 given text tokens shapes states = tables text.now tokens.now shapes.now states.now
 
 -- what a member that opens a node before it reads an item comes to
-abbrev pub Opened : Moments → Moments → Moments → Moments → Moments → Moments → Parser → Step → ℕ → (Tables → Inside) → Type 0
+abbrev pub Opened : Seen → Seen → Seen → Seen → Moments → Moments → Parser → Step → ℕ → (Tables → Inside) → Type 0
 Opened text tokens shapes states tree dropped p r gain rule =
     let t = given text.entry tokens.entry shapes.entry states.entry in
     Opening t gain (rule t) p (lent tree.entry dropped.entry) r (lent tree.exit dropped.exit)
 
 -- what a member that reads items in the node that is open comes to
-abbrev pub Stayed : Moments → Moments → Moments → Moments → Moments → Moments → Parser → Step → ℕ → (Tables → Inside) → Type 0
+abbrev pub Stayed : Seen → Seen → Seen → Seen → Moments → Moments → Parser → Step → ℕ → (Tables → Inside) → Type 0
 Stayed text tokens shapes states tree dropped p r gain rule =
     let t = given text.entry tokens.entry shapes.entry states.entry in
     Within t gain (rule t) p (lent tree.entry dropped.entry) r (lent tree.exit dropped.exit)

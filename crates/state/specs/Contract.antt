@@ -1,6 +1,6 @@
 -- What the contracts of the parser's routines say.
 use Rattle.std.specs.Prelude.{ℕ, ◌+◌, ◌*◌, ◌-◌, ◌/◌, ◌^◌, ◌≤◌, ◌<◌, ◌≡◌, Bool, List, eqb, length, drop}
-use Rattle.std.specs.Borrow.{Bor}
+use Rattle.std.specs.Borrow.{Bor, MutBor}
 use denote.Triple.Both.{Both}
 use Rattle.rules.specs.Limits.{tokens, nodes, tree_width, dropped_width, shape_width}
 use Rattle.rules.specs.Outcome.{Out, went}
@@ -171,20 +171,26 @@ pub record Somehow (sees : Tables → Type 0) (p : Parser) (tree : List ℕ) : T
 
 -- ---- the same over the parameters themselves
 
--- a parameter as a `requires` has it
+-- a slice that is read, and as an `ensures` has it: at the entry and at the exit
 abbrev pub Slice : Type 0
 Slice = Bor (List ℕ)
 
--- and as an `ensures` has it: at the entry and at the exit
+abbrev pub Seen : Type 0
+Seen = Both Slice Slice
+
+-- a buffer that is lent, and as an `ensures` has it
+abbrev pub Buffer : Type 0
+Buffer = MutBor (List ℕ)
+
 abbrev pub Moments : Type 0
-Moments = Both Slice Slice
+Moments = Both Buffer Buffer
 
 -- both buffers, of the numbers that they hold
 abbrev pub buffers : List ℕ → List ℕ → Buffers
 buffers tree dropped = record { tree = tree; dropped = dropped }
 
 -- both buffers, as they are lent
-abbrev pub lent : Slice → Slice → Buffers
+abbrev pub lent : Buffer → Buffer → Buffers
 lent tree dropped = buffers tree.now dropped.now
 
 -- the tables that a routine knows: those with these token rows
