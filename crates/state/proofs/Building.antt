@@ -21,7 +21,7 @@ use Rattle.builder.specs.declared.Built.TheVariants as built
 use Rattle.builder.proofs.Facts as facts
 use Rattle.state.specs.Stands.{Buffers, Here, pos_of, out_of}
 use Rattle.state.specs.Change.{rebuilt, building_of}
-use Rattle.state.specs.Contract.{MarkOk, Steady, Passed, Leafed, Begun, Ended, Gone, Told, Opens, Closes}
+use Rattle.state.specs.Contract.{MarkOk, Steady, Passed, Leafed, Begun, Ended, Gone, Told}
 use Rattle.state.specs.declared.KeptMark.{KeptMark}
 use Rattle.state.specs.declared.Parser.{Parser}
 use Rattle.state.specs.declared.Step.{Step}
