@@ -124,7 +124,7 @@ module _ (t : Tables) (greedy : Bool) (p : Parser) (m : Buffers) where
                 (λ moved. rw moved (mark_more (mark_here q) q.builder z.builder passed_item.passed.rows (mark_here_lem far.walk.ready)))
 
             changed : (n d : ℕ) → went (attaches n (pos_of z x)) ≡ went (pos_of (remarked z z.list.start y.list.last) x)
-            changed n d = rw (← l.same) (ap went (l.is t refl refl n v x))
+            changed n d = ap went (l.is t refl refl n v x) ∙ ap (λ u. went (pos_of u x)) l.same
 
             items-go_on : Far y x
             items-go_on =
