@@ -9,25 +9,20 @@ test:
 run: treelist
 	tools/treelist < examples/frac.sheet
 
-# Proved and built: target/bin/treelist.
+# Proved and built: crates/treelist/out/treelist.
 treelist:
-	rt check treelist
+	cd crates/treelist && rt run < ../../examples/frac.sheet > /dev/null
 
 # What treelist prints of every sheet in examples/, compared with what is stored there.
 examples: treelist
 	examples/check
 
-# The proved parser as a static library for C and Rust, beside include/cartglaze.h: target/staticlib/libffi.a. It is for x86-64; on another machine
-# tools/native compiles the same for that machine, into target/native/libffi.a.
-ifeq ($(shell uname -m),x86_64)
+# The proved parser as a static library for C and Rust, beside include/cartglaze.h: target/staticlib/libffi.a. It is for x86-64.
 LIBRARY = $(CURDIR)/target/staticlib
 ffi:
-	rt staticlib ffi
-else
-LIBRARY = $(CURDIR)/target/native
-ffi:
-	tools/native
-endif
+	cd crates/ffi && rt lib
+	mkdir -p $(LIBRARY)
+	cp crates/ffi/out/libffi.a $(LIBRARY)/libffi.a
 
 # The folder that it lies in.
 library:
