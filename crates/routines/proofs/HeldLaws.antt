@@ -23,7 +23,7 @@ use Rattle.builder.specs.Stands.{rows_of}
 use Rattle.builder.proofs.Numbers.{one_more, the_rest}
 use Rattle.state.specs.Stands.{Buffers, Here, pos_of, out_of}
 use Rattle.state.specs.Change.{relexed, unheld}
-use Rattle.state.specs.Contract.{Ready, Left, Leafed, Told, Ran, Somehow, Holding, Droppable, Ignored, buffers}
+use Rattle.state.specs.Contract.{Ready, Left, Leafed, Told, Ran, Holding, Droppable, Ignored, buffers}
 use Rattle.state.specs.declared.Parser.{Parser}
 use Rattle.state.specs.declared.Step.{Step}
 use Rattle.state.specs.declared.Step.TheVariants.{Went}
@@ -94,9 +94,6 @@ module _ (p : Parser) (before : List ℕ) where
         ≡ drop_from (flat n) s (p.lexer.token - i) i (with_rows tree count now)
     pub rest : drop (count * dropped_width) now ≡ drop (count * dropped_width) before
     pub long : length now ≡ length before
-
-  pub dropping-begins : Droppable p before → Dropping before p.held p.dropped
-  dropping-begins d = record { low = omega arith; high = d.holding.held; counted = omega arith; is = λ s n tree. refl; rest = refl; long = refl }
 
   module _ {now : List ℕ} {i count : ℕ} (d : Droppable p before) (far : Dropping now i count) where
     -- there is room for one more
@@ -196,28 +193,6 @@ module _ (tokens : List ℕ) (p : Parser) (tree : List ℕ) where
     pub list : q.list ≡ p.list
     pub dropped : q.dropped ≡ p.dropped
 
-  pub extracting_begins : Somehow Sees p tree → Extracting tree p p.held
-  extracting_begins s = record {
-    is = λ t notes seen. refl;
-    leaves = omega arith;
-    rest = refl;
-    long = refl;
-    fits = s.ready.steady.fits;
-    rows = omega arith;
-    depth = refl;
-    first = refl;
-    node = refl;
-    lexer = refl;
-    list = refl;
-    dropped = refl;
-  }
-
-  -- a token that was passed is there
-  pub passed_there : {i : ℕ} → Somehow Sees p tree → i < p.lexer.token → i < token_count tokens
-  passed_there s more =
-      let inside : p.lexer.token ≤ token_count tokens = rw s.seen at s.ready.steady.token in
-      omega arith
-
   -- from q a leaf was written, of a token that was passed
   abbrev Wrote : Parser → List ℕ → Leaf → Step → List ℕ → Type 0
   Wrote q after leaf r last =
@@ -289,7 +264,8 @@ module _ (tokens : List ℕ) (p : Parser) (tree : List ℕ) where
       }
 
     extracted : p.lexer.token ≤ i → (t : Tables) (notes : List ℕ) → Sees t
-        → extract_holding_trivia (flat (length tree)) (source_of t) (pos_of p (with_notes tree notes)) ≡ went (pos_of (unheld q) (with_notes after notes))
+        → extract_holding_trivia (flat (length tree)) (source_of t) (pos_of p (with_notes tree notes))
+        ≡ went (pos_of (unheld q) (with_notes after notes))
     unfolding extract_holding_trivia leaves_from
     extracted end t notes seen =
         let none : p.lexer.token - i ≡ 0 = omega arith in

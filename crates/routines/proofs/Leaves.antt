@@ -98,11 +98,6 @@ here_of {tokens} {p = p} s there =
     let fine : Fine s.t.text tokens (cursor_of p.lexer) = rw s.seen at s.ready.steady.fine in
     here fine there
 
--- the cursor is fine in what the code was handed
-pub fine_of : {text tokens tree : List ℕ} {p : Parser} → Somehow (λ t. (t.text ≡ text) × (t.tokens ≡ tokens)) p tree
-    → Fine text tokens (cursor_of p.lexer)
-fine_of s = rw (s.seen.0, s.seen.1) at s.ready.steady.fine
-
 -- there are few of them
 pub small_token : {tokens tree : List ℕ} {p : Parser} → Somehow (λ t. t.tokens ≡ tokens) p tree → p.lexer.token ≤ Limits.tokens
 small_token s =
