@@ -14,7 +14,7 @@ use Rattle.builder.specs.Stands as shown
 use Rattle.builder.specs.declared.Frame.{Frame as CodeFrame}
 use Rattle.state.specs.Stands.{Buffers, out_of}
 use Rattle.state.specs.Change.{unheld}
-use Rattle.state.specs.Contract.{Ended, Opens, Begins, Closes, Holding, Ignored, Slice, AtWord, LeftOf, buffers}
+use Rattle.state.specs.Contract.{Ended, Opens, Begins, Closes, Holding, Ignored, Slice, LeftOf, buffers}
 use Rattle.state.specs.declared.Parser.{Parser}
 use Rattle.state.specs.declared.Step.{Step}
 use Rattle.state.specs.declared.Step.TheVariants.{Went}
@@ -40,10 +40,7 @@ pub ignored-fits : {p ignored : Parser} {before after tree : List ℕ} → Ignor
     → Fits ignored.builder tree
 ignored-fits dropped fits = rw dropped.state fits
 
--- a Word that is next is next inside the node too
-pub word-still : (tokens : Slice) (p q : Parser) → q.lexer ≡ p.lexer → AtWord tokens p → AtWord tokens q
-word-still tokens p q same is = rw same is
-
+-- what is left of the next token is left of it inside the node too
 pub left-still : (tokens word : Slice) (p q : Parser) (t : Tables) → q.lexer ≡ p.lexer → LeftOf tokens word p t → LeftOf tokens word q t
 left-still tokens word p q t same is = rw same is
 
