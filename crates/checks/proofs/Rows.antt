@@ -5,7 +5,7 @@ use mathlib.Core.Bool.{Bool, true, false, not}
 use mathlib.Core.Path.{◌≡◌}
 use native.Mathlib.Omega.{arith}
 use Rattle.rules.proofs.Asked.{missed, met}
-use Rattle.rules.proofs.Checks.{Passed, none_passed, passes, found, all_passed}
+use Rattle.rules.proofs.Checks.{Passed, passes, found, all_passed}
 use Rattle.checks.specs.Checked.{Judged, FirstBad}
 use Rattle.checks.specs.declared.bad.Bad.TheVariants.{Row, Nowhere}
 
@@ -15,9 +15,6 @@ module _ {Unseen : Type 0} where
     pub passed : (unseen : Unseen) → Passed (right unseen) count row
 
   module _ {right : Unseen → ℕ → Bool} {count : ℕ} where
-    pub begins : RightBefore right count 0
-    begins = record { few = omega arith; passed = λ unseen. none_passed _ _ }
-
     module _ {row : ℕ} (before : RightBefore right count row) where
       pub ends : count ≤ row → FirstBad right count Nowhere
       ends all = record { is = λ unseen. all_passed (before.passed unseen) all }

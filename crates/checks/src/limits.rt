@@ -14,6 +14,7 @@ fn whole_rows(table: &[u32], width: usize, most: usize) -> bool
 }
 
 // Whether no limit is passed and every table is whole rows.
+#[tactic(auto, unfolding(rules::specs::Checks::within_limits))]
 pub fn within_limits(text: &[u8], tokens: &[u32], shapes: &[u32], states: &[u32]) -> bool
     ensures { result ≡ within_limits (tables text.now tokens.now shapes.now states.now) }
 {

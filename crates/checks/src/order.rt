@@ -17,6 +17,7 @@ pub enum Checked {
 }
 
 // The tables are judged beside a dropped buffer of so many numbers. Nothing is asked of them.
+#[tactic(auto, unfolding(rules::specs::Checks::checks))]
 pub fn check(text: &[u8], tokens: &[u32], shapes: &[u32], states: &[u32], dropped: usize) -> Checked
     ensures { let t = tables text.now tokens.now shapes.now states.now in
         checks t dropped ≡ checked_of result }

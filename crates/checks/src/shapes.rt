@@ -10,6 +10,7 @@ use items::Shape;
 use syntax::{Class, Form, Limits};
 
 // Whether a form may have this value where there are so many states.
+#[tactic(auto, unfolding(rules::specs::Checks::value_right))]
 fn value_right(states: usize, form: u32, value: u32) -> bool
     ensures { result ≡ value_right states form value }
 {
@@ -22,6 +23,7 @@ fn value_right(states: usize, form: u32, value: u32) -> bool
 }
 
 // Whether the class, the form and its value may stand together.
+#[tactic(auto, unfolding(rules::specs::Checks::shape_right))]
 fn shape_right(states: usize, shape: Shape) -> bool
     ensures { result ≡ shape_right states (shape_for shape) }
 {
@@ -44,6 +46,7 @@ fn next_right(states: &[u32], count: usize, at: usize) -> bool
 }
 
 // Whether the three next states of a row are.
+#[tactic(auto, unfolding(rules::specs::Checks::state_right))]
 fn state_right(states: &[u32], count: usize, row: usize) -> bool
     requires { row * state_width + state_width ≤ length states.now }
     ensures { result ≡ state_right states.now count row }
@@ -59,6 +62,7 @@ fn state_right(states: &[u32], count: usize, row: usize) -> bool
 }
 
 // A row behind the last shape is a state's.
+#[tactic(auto, unfolding(rules::specs::Checks::shape_or_state_right))]
 fn shape_or_state_right(shapes: &[u32], states: &[u32], row: usize) -> bool
     requires { row < shapes_and_states shapes.now states.now }
     ensures { Judged (shape_or_state_row shapes.now states.now) row result }

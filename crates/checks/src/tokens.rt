@@ -8,6 +8,7 @@ use lexer::{Column, cell, is_utf8};
 use syntax::{Limits, Token};
 
 // Whether a Word's own bytes, a part of the caller's text that starts in its middle, are one or more and UTF-8.
+#[tactic(auto, unfolding(rules::specs::Checks::word_right))]
 fn word_right(text: &[u8], tokens: &[u32], token: usize) -> bool
     requires { (token < token_count tokens.now) × (start_at tokens.now token + length_at tokens.now token ≤ length text.now) }
     ensures { Judged (word_row text.now tokens.now) token result }
@@ -18,6 +19,7 @@ fn word_right(text: &[u8], tokens: &[u32], token: usize) -> bool
 }
 
 // Whether a token row has a kind of the forty, lies inside the text, has a shape of the table, and is right if it is a Word.
+#[tactic(auto, unfolding(rules::specs::Checks::token_right))]
 fn token_right(text: &[u8], tokens: &[u32], shapes: &[u32], token: usize) -> bool
     requires { token < token_count tokens.now }
     ensures { Judged (token_row text.now tokens.now shapes.now) token result }

@@ -45,6 +45,7 @@ fn is_environment(scope: ParseScope) -> bool
     }
 }
 
+#[tactic(auto, unfolding(rules::specs::Items::greedy_stops))]
 pub fn greedy_stops(scope: ParseScope, kind: u32) -> bool
     ensures { result ≡ greedy_stops (scope_of scope) kind }
 {
@@ -69,6 +70,7 @@ fn if_matched(piece: Piece, matched: Matched) -> Choice
 }
 
 // What follows if a token of this kind is next. A Word does not come here: its characters are asked about one by one.
+#[tactic(auto, unfolding(rules::specs::Items::choose, rules::specs::Kinds::is_trivia))]
 pub fn choose(states: &[u32], scope: ParseScope, matcher: ArgMatcher, kind: u32) -> Choice
     requires { kind ≡ word_kind → ⊥ }
     ensures { choice_for result ≡ choose states.now (scope_of scope) (matcher_of matcher) kind }

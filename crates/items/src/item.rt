@@ -133,6 +133,7 @@ fn attachable_item(item: Item, kind: u32, shape: Shape) -> bool
 }
 
 // The same by the kind alone; the shape is the token's own.
+#[tactic(auto, unfolding(rules::specs::Items::attachable))]
 pub fn attachable(kind: u32, shape: Shape) -> bool
     ensures { result ≡ attachable kind (shape_for shape) }
 {

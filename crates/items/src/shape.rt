@@ -45,6 +45,7 @@ impl Shape {
     }
 
     // The shape of a token: shape number 0 is none, k the k-th row.
+    #[tactic(auto, unfolding(rules::specs::Checks::shape_of))]
     pub fn of_token(tokens: &[u32], shapes: &[u32], token: usize) -> Self
         requires { (token < token_count tokens.now) × (shape_at tokens.now token ≤ length shapes.now / shape_width) }
         ensures { (text states : List ℕ)

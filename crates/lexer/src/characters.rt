@@ -57,6 +57,7 @@ fn four(bytes: &[u8], low: u8, high: u8, from: u8, to: u8) -> bool
 
 // The length of the first character where that is not one of a single byte, or 0 where the bytes begin with none. The lines are the grammar's
 // alternatives, in its order.
+#[tactic(auto, unfolding(rules::specs::Characters::char_length))]
 fn wide_len(bytes: &[u8]) -> usize
     requires { begins ((0x00, 0x7F) ∷ []) bytes.now ≡ false }
     ensures { result ≡ char_length bytes.now }
@@ -93,6 +94,7 @@ fn wide_len(bytes: &[u8]) -> usize
 }
 
 // The length of the first character, or 0 where the bytes begin with none. Most have a single byte, so that one is asked here.
+#[tactic(auto, unfolding(rules::specs::Characters::char_length))]
 pub fn char_len(bytes: &[u8]) -> usize
     ensures { result ≡ char_length bytes.now }
 {
@@ -104,6 +106,7 @@ pub fn char_len(bytes: &[u8]) -> usize
 
 // Whether the bytes are characters one after the other. A character of a single byte is told by that byte, without a call; any other is looked for
 // in a part that starts where the one before it ends.
+#[tactic(auto, using(crate::proofs::Utf8::turns))]
 pub fn is_utf8(bytes: &[u8]) -> bool
     ensures { result ≡ is_utf8 bytes.now }
 {

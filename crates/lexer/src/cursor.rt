@@ -54,6 +54,7 @@ impl Lexer {
     }
 
     // The next token's kind.
+    #[tactic(auto, unfolding(rules::specs::Cursor::peek))]
     pub fn peek(self, tokens: &[u32]) -> Peeked
         ensures { peek tokens.now (cursor_of self) ≡ peeked_of result }
     {
@@ -65,6 +66,7 @@ impl Lexer {
     }
 
     // Where what is left of the next token starts in the text.
+    #[tactic(auto, unfolding(rules::specs::Cursor::rest_start))]
     pub fn rest_start(self, tokens: &[u32]) -> u32
         requires { Here tokens.now (cursor_of self) }
         ensures { result ≡ rest_start tokens.now (cursor_of self) }
@@ -73,6 +75,7 @@ impl Lexer {
     }
 
     // How many bytes are left of it.
+    #[tactic(auto, unfolding(rules::specs::Cursor::rest_length))]
     pub fn rest_length(self, tokens: &[u32]) -> u32
         requires { Here tokens.now (cursor_of self) }
         ensures { result ≡ rest_length tokens.now (cursor_of self) }
@@ -91,6 +94,7 @@ impl Lexer {
     }
 
     // So many bytes of the next token are passed, or all of it where it has no more.
+    #[tactic(auto, unfolding(rules::specs::Cursor::consumed))]
     pub fn consume_utf8_bytes(self, tokens: &[u32], count: usize) -> Self
         requires { Here tokens.now (cursor_of self) }
         ensures { cursor_of result ≡ consumed tokens.now count (cursor_of self) }

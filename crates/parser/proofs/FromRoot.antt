@@ -20,7 +20,7 @@ use Rattle.state.specs.Stands.{Buffers, Here, pos_of, out_of}
 use Rattle.state.specs.declared.Parser.{Parser}
 use Rattle.state.specs.declared.Step.{Step}
 use Rattle.state.specs.declared.Step.TheVariants.{Went, Refused}
-use Rattle.state.proofs.Walk.{Rule, line, Walk, Call, Stopped, stop, stopped, gone_map, passed_then, steps_on, stops-is, leaves}
+use Rattle.state.proofs.Walk.{Rule, line, Walk, Call, Stopped, stop, stopped, gone_map, passed_then, steps_on, stops-is}
 use Rattle.parser.specs.Member.{inner_at}
 use Rattle.state.proofs.Marks.{no_mark_lem}
 use Rattle.parser.specs.Root.{at_root, Readable, Written, Parsed}

@@ -43,7 +43,7 @@ use syntax::{Class, Form, Limits, ParseScope, Refusal, SyntaxKind, Token};
 // Two more stand in crates/builder and crates/state: docs/DECISIONS.md, 'Only for speed'.
 
 // Items as far as an extent goes: up to the end, or a token that stops them, or one. That it is one loop is only for speed: see above.
-#[cycle(arg_arguments_attach_component_command_content_environment_greedy_command_inside_item_group_item_lr_items_match_arguments_piece_script_with_arguments)]
+#[cycle(reading)]
 fn items(
     text: &[u8],
     tokens: &[u32],
@@ -71,7 +71,7 @@ fn items(
 }
 
 // What an extent reads: a new list, whose parent's marks are given back, all that a greedy command takes, or one item.
-#[cycle(arg_arguments_attach_component_command_content_environment_greedy_command_inside_item_group_item_lr_items_match_arguments_piece_script_with_arguments)]
+#[cycle(reading)]
 fn inside(
     text: &[u8],
     tokens: &[u32],
@@ -95,7 +95,7 @@ fn inside(
 
 // A group between its braces.
 //  {a}   Curly[{ Text[a] }]
-#[cycle(arg_arguments_attach_component_command_content_environment_greedy_command_inside_item_group_item_lr_items_match_arguments_piece_script_with_arguments)]
+#[cycle(reading)]
 fn item_group(
     text: &[u8],
     tokens: &[u32],
@@ -138,7 +138,7 @@ fn item_group(
 }
 
 // How an argument is read, inside its node.
-#[cycle(arg_arguments_attach_component_command_content_environment_greedy_command_inside_item_group_item_lr_items_match_arguments_piece_script_with_arguments)]
+#[cycle(reading)]
 fn piece(
     text: &[u8],
     tokens: &[u32],
@@ -160,7 +160,7 @@ fn piece(
 }
 
 // An accepted argument, in a node of its own.
-#[cycle(arg_arguments_attach_component_command_content_environment_greedy_command_inside_item_group_item_lr_items_match_arguments_piece_script_with_arguments)]
+#[cycle(reading)]
 fn arg(
     text: &[u8],
     tokens: &[u32],
@@ -186,7 +186,7 @@ fn arg(
 }
 
 // Arguments, until the matcher or the kind of token ends them. A refused character ends both loops.
-#[cycle(arg_arguments_attach_component_command_content_environment_greedy_command_inside_item_group_item_lr_items_match_arguments_piece_script_with_arguments)]
+#[cycle(reading)]
 fn arguments(
     text: &[u8],
     tokens: &[u32],
@@ -249,7 +249,7 @@ fn arguments(
 
 // The arguments that a shape asks for. The Rust asserts here that they aren't greedy. A \begin with a greedy shape gets refusal 5; a greedy command
 // does not come here. Last is cleared first and saved second, so it is empty afterwards.
-#[cycle(arg_arguments_attach_component_command_content_environment_greedy_command_inside_item_group_item_lr_items_match_arguments_piece_script_with_arguments)]
+#[cycle(reading)]
 fn match_arguments(
     text: &[u8],
     tokens: &[u32],
@@ -283,7 +283,7 @@ fn match_arguments(
 
 // A greedy command, around what stands from a mark on if there is one; all that it takes stands in one node.
 //  a\o b   Cmd[Arg[Text a] \o Arg[..]]
-#[cycle(arg_arguments_attach_component_command_content_environment_greedy_command_inside_item_group_item_lr_items_match_arguments_piece_script_with_arguments)]
+#[cycle(reading)]
 fn greedy_command(
     text: &[u8],
     tokens: &[u32],
@@ -331,7 +331,7 @@ fn greedy_command(
 
 // A name with the arguments that its shape asks for, in a node of a kind; what is left held follows the node.
 //  \f12   Cmd[\f Arg[1] Arg[2]]
-#[cycle(arg_arguments_attach_component_command_content_environment_greedy_command_inside_item_group_item_lr_items_match_arguments_piece_script_with_arguments)]
+#[cycle(reading)]
 fn with_arguments(
     text: &[u8],
     tokens: &[u32],
@@ -367,7 +367,7 @@ fn with_arguments(
 }
 
 // A command by its shape.
-#[cycle(arg_arguments_attach_component_command_content_environment_greedy_command_inside_item_group_item_lr_items_match_arguments_piece_script_with_arguments)]
+#[cycle(reading)]
 fn command(
     text: &[u8],
     tokens: &[u32],
@@ -414,7 +414,7 @@ fn command(
 
 // An environment: its \begin, its body, its \end.
 //  \begin{m}a\end{m}   Env[Begin[m] Text[a] End[m]]
-#[cycle(arg_arguments_attach_component_command_content_environment_greedy_command_inside_item_group_item_lr_items_match_arguments_piece_script_with_arguments)]
+#[cycle(reading)]
 fn environment(
     text: &[u8],
     tokens: &[u32],
@@ -468,7 +468,7 @@ fn environment(
 
 // A body between its delimiters.
 //  \left(a\right)   LR[ClauseLR[\left (] Text[a] ClauseLR[\right )]]
-#[cycle(arg_arguments_attach_component_command_content_environment_greedy_command_inside_item_group_item_lr_items_match_arguments_piece_script_with_arguments)]
+#[cycle(reading)]
 fn item_lr(
     text: &[u8],
     tokens: &[u32],
@@ -510,7 +510,7 @@ fn item_lr(
 }
 
 // What follows `_` or `^`. The scope is not asked, so a `}` is a script too.
-#[cycle(arg_arguments_attach_component_command_content_environment_greedy_command_inside_item_group_item_lr_items_match_arguments_piece_script_with_arguments)]
+#[cycle(reading)]
 fn script(
     text: &[u8],
     tokens: &[u32],
@@ -556,7 +556,7 @@ fn script(
 
 // A script or an apostrophe, around what stands from last on. Without a last mark `'` is a plain leaf, and `_b` is Attach[_ b].
 //  a_b   Attach[Arg[Text a] _ b]
-#[cycle(arg_arguments_attach_component_command_content_environment_greedy_command_inside_item_group_item_lr_items_match_arguments_piece_script_with_arguments)]
+#[cycle(reading)]
 fn attach_component(
     text: &[u8],
     tokens: &[u32],
@@ -594,7 +594,7 @@ fn attach_component(
 }
 
 // Any item, whole.
-#[cycle(arg_arguments_attach_component_command_content_environment_greedy_command_inside_item_group_item_lr_items_match_arguments_piece_script_with_arguments)]
+#[cycle(reading)]
 fn content(
     text: &[u8],
     tokens: &[u32],

@@ -5,3 +5,4 @@ pub mod OnTrees
 pub mod Only
 pub mod Tagged
 pub mod Tests
+pub mod Walks

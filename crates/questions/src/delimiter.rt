@@ -8,6 +8,7 @@ use crate::rows::{Column, cell};
 use crate::tokens::Found;
 
 // Whether two texts are the same.
+#[tactic(auto, using(crate::proofs::Walks::bytes))]
 fn same(one: &[u8], other: &[u8]) -> bool
     ensures { result ≡ same one.now other.now }
 {

@@ -9,6 +9,7 @@ use crate::tokens::{Found, first_token, formula, last_token};
 use syntax::SyntaxKind;
 
 // Whether the first token is a TokenDollar with the one text or a TokenBeginMath with the other.
+#[tactic(auto, unfolding(rules::specs::Questions::one_of))]
 fn opens(text: &[u8], tree: &[u32], row: usize, dollar: &[u8], math: &[u8]) -> bool
     ensures { result ≡ one_of text.now
         (record { kind = TokenDollar; bytes = dollar.now })

@@ -15,6 +15,7 @@ pub struct LeafRange {
 }
 
 // The range that a row names.
+#[tactic(auto, unfolding(rules::specs::Questions::range_at))]
 fn range_at(tree: &[u32], row: usize) -> LeafRange
     requires { row < row_count tree.now }
     ensures { (range_of result ≡ range_at tree.now row) × (result.start < 2 ^ 32) × (result.size < 2 ^ 32) }
@@ -26,6 +27,7 @@ fn range_at(tree: &[u32], row: usize) -> LeafRange
 }
 
 // Whether the row is a leaf inside the text.
+#[tactic(auto, using(crate::proofs::Tagged::there), unfolding(rules::specs::Questions::is_leaf))]
 pub fn is_leaf(text: &[u8], tree: &[u32], row: usize) -> bool
     ensures { result ≡ is_leaf text.now tree.now row }
 {
@@ -39,6 +41,7 @@ pub fn is_leaf(text: &[u8], tree: &[u32], row: usize) -> bool
 }
 
 // Where the text of a leaf stands. For a leaf outside the text, another row or no row: nothing at the text's start.
+#[tactic(auto, using(crate::proofs::Tagged::leaf_there), unfolding(rules::specs::Questions::leaf_range))]
 pub fn leaf_range(text: &[u8], tree: &[u32], row: usize) -> LeafRange
     ensures { range_of result ≡ leaf_range text.now tree.now row }
 {

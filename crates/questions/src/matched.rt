@@ -9,6 +9,7 @@ use crate::tokens::Found;
 use syntax::SyntaxKind;
 
 // Whether the one token is this delimiter and the other that one.
+#[tactic(auto, unfolding(rules::specs::Questions::between))]
 fn between(
     text: &[u8],
     tree: &[u32],
@@ -57,6 +58,7 @@ fn math(text: &[u8], tree: &[u32], first: Found, last: Found, begin: &[u8], end:
 }
 
 // Whether they are one of the four pairs.
+#[tactic(auto, unfolding(rules::specs::Questions::matched))]
 pub fn matched(text: &[u8], tree: &[u32], first: Found, last: Found) -> bool
     ensures { result ≡ matched text.now
         (leaf_at tree.now (found_of first))

@@ -30,6 +30,7 @@ pub fn cell(tree: &[u32], row: usize, column: usize) -> u32
 }
 
 // Whether there is such a row, and it has the tag.
+#[tactic(auto, unfolding(rules::specs::Questions::tagged))]
 pub fn tagged(tag: u32, tree: &[u32], row: usize) -> bool
     ensures { result ≡ tagged tag tree.now row }
 {

@@ -14,6 +14,7 @@ pub enum Found {
 }
 
 // How many nodes are open once a row of this tag is passed.
+#[tactic(auto, unfolding(rules::specs::Questions::open_after))]
 fn open_after(tag: u32, deep: usize) -> usize
     requires { (0 < deep) × (deep < 2 ^ 63) }
     ensures { result ≡ open_after tag deep }
@@ -28,6 +29,7 @@ fn open_after(tag: u32, deep: usize) -> usize
 }
 
 // The finish that matches the start in this row: the first later row where starts and finishes balance, with no tag over 2 before it.
+#[tactic(auto, using(crate::proofs::Walks::balances))]
 fn matching_finish(tree: &[u32], row: usize) -> Found
     requires { row < row_count tree.now }
     ensures { found_of result ≡ matching_finish tree.now row }
@@ -50,6 +52,7 @@ fn matching_finish(tree: &[u32], row: usize) -> Found
 }
 
 // The finish of the formula that starts in this row, if one does.
+#[tactic(auto, using(crate::proofs::Tagged::there), unfolding(rules::specs::Questions::formula))]
 pub fn formula(tree: &[u32], row: usize) -> Found
     ensures { found_of result ≡ formula tree.now row }
 {
@@ -62,6 +65,7 @@ pub fn formula(tree: &[u32], row: usize) -> Found
 }
 
 // The first token from a row on and before another: a start is passed, for its first child is the next row.
+#[tactic(auto, using(crate::proofs::Walks::first_rows))]
 fn first_from(tree: &[u32], from: usize, to: usize) -> Found
     requires { (from ≤ to) × (to ≤ row_count tree.now) }
     ensures { found_of result ≡ first_from tree.now (to - from) from }
@@ -81,6 +85,7 @@ fn first_from(tree: &[u32], from: usize, to: usize) -> Found
 }
 
 // The last token before a row: a finish is passed, for its last child ends in the row before.
+#[tactic(auto, using(crate::proofs::Walks::last_rows))]
 fn last_before(tree: &[u32], to: usize) -> Found
     requires { to ≤ row_count tree.now }
     ensures { found_of result ≡ last_before tree.now to }
@@ -101,6 +106,7 @@ fn last_before(tree: &[u32], to: usize) -> Found
 }
 
 // The row of the formula's first token.
+#[tactic(auto, unfolding(rules::specs::Questions::first_token))]
 pub fn first_token(tree: &[u32], row: usize) -> Found
     ensures { found_of result ≡ first_token tree.now row }
 {
@@ -112,6 +118,7 @@ pub fn first_token(tree: &[u32], row: usize) -> Found
 }
 
 // The row of its last.
+#[tactic(auto, unfolding(rules::specs::Questions::last_token))]
 pub fn last_token(tree: &[u32], row: usize) -> Found
     ensures { found_of result ≡ last_token tree.now row }
 {

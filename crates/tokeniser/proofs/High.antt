@@ -52,7 +52,8 @@ each-low (byte ∷ text) is (suc i) here =
 
 pub no_high : (text : List ℕ) → high_in text ≡ 0 → first_bad (is_ascii text) (length text) 0 ≡ place_in text (length text)
 no_high text is =
-    none_where (is_ascii text) (length text) 0 (λ i low here. each-low text is i (omega arith)) ∙ rw (le-ltb (length text) (length text) (omega arith))
+    let long = length text in
+    none_where (is_ascii text) long 0 (λ i low here. each-low text is i (omega arith)) ∙ rw (le-ltb long long (omega arith))
 
 -- ---- the first of them
 module _ (text : List ℕ) where
@@ -70,4 +71,6 @@ module _ (text : List ℕ) where
     none_at_all past = all_passed so_far past ∙ rw (le-ltb at (length text) past)
 
   pub ascii : first_bad (is_ascii text) (length text) 0 ≡ none → Ascii text
-  ascii none-bad = record { byte = λ at here. omega (arith, leb-true (get_or text at 0) 127 (all_right (is_ascii text) (length text) none-bad at here)) }
+  ascii none-bad =
+      let right = all_right (is_ascii text) (length text) none-bad in
+      record { byte = λ at here. omega (arith, leb-true (get_or text at 0) 127 (right at here)) }

@@ -1,5 +1,5 @@
 -- The code's classes of bytes and what they stand for; and what is known of a text that is read.
-use Rattle.std.specs.Prelude.{ℕ, suc, ◌+◌, ◌-◌, ◌/◌, ◌%◌, ◌^◌, ◌<◌, ◌≤◌, ◌≡◌, Bool, false, cond, List, [], ◌∷◌, eqb, leb, ltb, length, get_or, drop}
+use Rattle.std.specs.Prelude.{ℕ, suc, ◌+◌, ◌-◌, ◌/◌, ◌%◌, ◌^◌, ◌<◌, ◌≡◌, Bool, false, cond, List, [], ◌∷◌, eqb, leb, ltb, length, get_or, drop}
 use Rattle.rules.specs.Commands.{is_letter, is_name}
 use Rattle.rules.specs.Patterns.{is_break, is_blank, is_no_break, is_word}
 use Rattle.rules.specs.Patterns as rules

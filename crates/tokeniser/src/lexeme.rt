@@ -51,6 +51,7 @@ fn with_name(kind: u32) -> u32
 }
 
 // A backslash and its name; \begin and \end take a name in braces with them.
+#[tactic(auto, using(crate::proofs::Stops::commands))]
 fn command(text: &[u8], at: usize) -> Lexeme
     requires { (at < length text.now) × Ascii text.now }
     ensures { Stands at (command (drop at text.now)) result }

@@ -85,6 +85,7 @@ fn cut(text: &[u8], rows: &mut [u32], counting: bool) -> usize
 
 // Whether the text, its tokens and their rows keep to the limits and to the buffer that is lent. There are no more tokens than bytes, so that they
 // need not be counted where there is room for as many as bytes.
+#[tactic(auto, using(crate::proofs::Judged::tokens))]
 fn fits(text: &[u8], rows: &mut [u32]) -> bool
     requires { Ascii text.now }
     ensures { (result ≡ fits text.now (length rows.old)) × (rows.new ≡ rows.old) }
