@@ -1,3 +1,2 @@
--- What the proofs of several functions use, and what other crates cite.
-pub mod Columns
+-- What other crates cite.
 pub mod Fixed

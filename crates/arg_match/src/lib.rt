@@ -86,6 +86,7 @@ impl ArgMatcher {
     }
 
     // The matcher that a shape starts with.
+    #[tactic(auto, unfolding(rules::specs::Matcher::start_match))]
     pub fn start_match(form: u32, value: u32) -> ArgMatcher
         ensures { matcher_of result ≡ start_match form value }
     {
@@ -112,6 +113,7 @@ impl ArgMatcher {
     }
 
     // Whether what comes next is accepted, as a whole item or as a bare token, and what is accepted behind it.
+    #[tactic(auto, unfolding(rules::specs::Matcher::match_next))]
     pub fn match_next(self, states: &[u32], argument: Argument) -> Matched
         ensures { matched_of result ≡ match_next states.now (matcher_of self) (argument_of argument) }
     {
