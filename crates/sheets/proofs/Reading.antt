@@ -1,50 +1,27 @@
 -- What the tests and the three parts of `read` come to: the answer and the numbers of the rule. Each table is read behind those that are there
 -- already (`next`), so that after three of them the buffer begins with all. Assumes nothing.
-use Prim.Native.Nat.{ℕ, ◌+◌, ◌-◌, ◌/◌, ◌≤◌, ◌<◌}
+use Prim.Native.Nat.{ℕ, ◌+◌, ◌/◌, ◌≤◌, ◌<◌}
 use mathlib.Core.Bool.{true, false}
 use mathlib.Core.List.{List, [], ◌++◌, append_assoc}
 use mathlib.Core.Path.{◌≡◌, refl, sym, ap, ◌∙◌}
 use native.Mathlib.Nat.{zero-add}
 use native.Mathlib.Omega.{arith}
 use borrow.Author.Tests.{le-leb, lt-leb}
-use borrow.Rule.Slice.PartMut.{mid_of, put_mid, mid_len}
-use lib.ListN.{length, take, drop, length-append, take-append-drop}
-use lib.Seq.{length-take-le, take_at, drop_at, drop-drop}
+use lib.ListN.{length, take, drop, length-append}
+use lib.Seq.{take_at, drop_at, drop-drop}
 use Rattle.rules.specs.Run.{over}
-use Rattle.rules.specs.Sheet.{number_bytes, number_at, numbers_at, tokens_at, shapes_at, states_at, table_at, tables_of, readable, read}
+use Rattle.rules.specs.Sheet.{number_bytes, number_at, tokens_at, shapes_at, states_at, table_at, tables_of, readable, read}
 use Rattle.rules.proofs.Sheet.{table_long, whole, text-long}
 use Rattle.sheets.specs.Contract.{Counted, Room, with_table, Reads, numbers_of, sections_of}
 use Rattle.sheets.specs.declared.sections.Places.{Places}
 use Rattle.sheets.specs.declared.sections.Sections.{Sections}
 use Rattle.sheets.specs.declared.sheet.Sheet.TheVariants.{Read, Refused, NoRoom}
-use Rattle.sheets.proofs.Numbers.{part-more}
-
--- ---- so many numbers of a buffer, lent from a place on, and the buffer when they are back
-abbrev pub lent : ℕ → ℕ → List ℕ → List ℕ
-lent from count v = mid_of from (from + count - from) v
-
-abbrev pub back : ℕ → ℕ → List ℕ → List ℕ → List ℕ
-back from count v part = put_mid from (from + count - from) v part
 
 -- the first numbers of a buffer are `done`, and all behind them as they were
 pub record Done (numbers done : List ℕ) (count : ℕ) (v : List ℕ) : Type 0 where
   pub is : v ≡ done ++ drop count numbers
   pub long : length done ≡ count
   pub fits : count ≤ length numbers
-
--- so many numbers has the table at a place
-pub counted-at : (sheet : List ℕ) (at : ℕ) {place count : ℕ} → place ≡ at → count ≡ number_at sheet at / number_bytes
-    → count ≡ number_at sheet place / number_bytes
-counted-at sheet at here counted = rw here counted
-
--- a table is read into the lent numbers
-pub table_in : (sheet v : List ℕ) (at from count : ℕ) {part : List ℕ} → count ≡ number_at sheet at / number_bytes → from + count ≤ length v
-    → part ≡ numbers_at sheet (at + number_bytes) (length (lent from count v)) → back from count v part ≡ with_table sheet at from count v
-table_in sheet v at from count {part} counted fits read =
-    let size : from + count - from ≡ count = omega arith in
-    let table : part ≡ table_at sheet at = read ∙ rw (mid_len from (from + count) v (omega arith), size, counted) in
-    let first = length-take-le from v (omega arith) in
-    rw (← table) (part-more (take from v) v part from (from + count) first (omega arith) (sym (take-append-drop from v)))
 
 -- the next table is read behind them
 pub next : (sheet numbers : List ℕ) (at : ℕ) {place count from : ℕ} {done v w : List ℕ} → Done numbers done from v → from + count ≤ length numbers

@@ -51,6 +51,7 @@ pub struct Places {
 }
 
 // Where the section ends whose length stands at a place.
+#[tactic(auto, unfolding(rules::specs::Sheet::end_of))]
 fn end_of(sheet: &[u8], at: usize) -> usize
     requires { at < 2 ^ 40 }
     ensures { (result ≡ end_of sheet.now at) × (result < at + 2 ^ 33) }
@@ -82,6 +83,7 @@ fn whole_numbers(sheet: &[u8], at: usize) -> bool
 }
 
 // Whether the sheet is not longer than a sheet may be, of the version, neither cut short nor followed by more, and its tables have whole numbers.
+#[tactic(auto, using(std::proofs::lemmas::Bool::Decides::nat_tests), unfolding(rules::specs::Sheet::readable))]
 pub fn readable(sheet: &[u8], places: Places) -> bool
     requires { Placed sheet.now places }
     ensures { result ≡ readable sheet.now }
