@@ -6,7 +6,6 @@ pub mod Cycle
 pub mod Entry
 pub mod Extents
 pub mod ItemLoop
-pub mod Lent
 pub mod ListNode
 pub mod Marks
 pub mod Scripts
