@@ -1,7 +1,7 @@
 /* Cartglaze for C: a formula's text into token rows, mitex's parser over tables of numbers, sheets that hold such tables, and the listing of an
  * answer. The functions of crates/ffi/src (run and questions in lib.rt, tokens.rt, sheet.rt, listing.rt), with what each promises.
  *
- * Link target/staticlib/libffi.a, by that path (another library has the name libffi). `rt staticlib ffi` writes it.
+ * Link target/staticlib/libffi.a, by that path (another library has the name libffi). `make ffi` writes it.
  *
  * What a caller owes, of each function:
  *   - A pointer with a length behind it points to so many elements that are there, aligned as their type is. It is not null, even where the length

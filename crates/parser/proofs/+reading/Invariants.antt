@@ -1,5 +1,5 @@
--- The measures of the cycle, and the invariants of its loops. What falls is the number of nodes that may yet be opened; of members that call each other in one node the caller has the
--- higher rank.
+-- The measures of the cycle, and the invariants of its loops. What falls is the number of nodes that may yet be opened; of members that call each
+-- other in one node the caller has the higher rank.
 use Rattle.std.proofs.Common.{ℕ, ◌+◌, ◌*◌, ◌-◌}
 use Rattle.rules.specs.Limits.{nodes}
 use Rattle.rules.specs.Matcher.{Matcher}

@@ -29,7 +29,8 @@ buffers_at b = buffers b.args.tree.now b.args.dropped.now
 -- the walk from the entry b, after so many steps
 abbrev Came : Start → ℕ → Parser → List ℕ → List ℕ → Type 0
 Came b done u tree dropped =
-    Walk (tables_at b) (line (plan (tables_at b))) (drop done (plan (tables_at b))) 0 1 at_root.list.scope at_root (buffers_at b) u (buffers tree dropped)
+    let t = tables_at b in
+    Walk t (line (plan t)) (drop done (plan t)) 0 1 at_root.list.scope at_root (buffers_at b) u (buffers tree dropped)
 
 entry : (c : Start) → Steady (tables_at c) at_root (buffers_at c)
 entry c = root-steady c.requires
