@@ -1,4 +1,3 @@
 -- What the proofs of several functions use, and what the contracts fix.
 pub mod Telling
-pub mod Alike
 pub mod Only

@@ -1,10 +1,7 @@
 -- Laws of answers that are given exactly where something holds; such a contract fixes the answer. Assumes nothing.
 use mathlib.Core.Bool.{Bool, true, false, false≢true}
-use mathlib.Core.Path.{◌≡◌, refl, sym}
+use mathlib.Core.Path.{◌≡◌, refl}
 use Rattle.compare.specs.Tells.{Tells}
-
-pub holds : {P : Type 0} → P → Tells P true
-holds p = record { yes = λ _. p; no = λ e. absurd (false≢true (sym e)) }
 
 pub fails : {P : Type 0} → (P → ⊥) → Tells P false
 fails none = record { yes = λ e. absurd (false≢true e); no = λ _. none }

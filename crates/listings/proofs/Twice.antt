@@ -1,15 +1,15 @@
 -- What two writings of a listing come to: the first, into no room, counts its bytes; the second writes them where they have room. Assumes nothing.
-use Prim.Native.Nat.{ℕ, ◌*◌, ◌^◌, ◌≤◌, ◌<◌, min}
+use Prim.Native.Nat.{ℕ, ◌*◌, ◌^◌, ◌≤◌, ◌<◌}
 use mathlib.Core.List.{List, [], ◌++◌}
 use mathlib.Core.Path.{◌≡◌, sym}
 use native.Mathlib.Nat.{zero-add}
 use native.Mathlib.Omega.{arith}
-use borrow.Author.Tests.{le-leb, lt-leb}
+use borrow.Author.Tests.{le-leb}
 use lib.ListN.{length}
 use lib.Seq.{sets, sets-eq}
 use Rattle.rules.specs.Run.{over}
-use Rattle.listings.specs.Contract.{most, Wrote, Lists}
-use Rattle.listings.specs.declared.listing.Listed.TheVariants.{Bytes, NoRoom}
+use Rattle.listings.specs.Contract.{Wrote, Lists}
+use Rattle.listings.specs.declared.listing.Listed.TheVariants.{Bytes}
 use Rattle.listings.proofs.Writing.{sets_past}
 
 -- the bytes of a lent slice are fewer than 2^63
@@ -17,12 +17,6 @@ module _ {lines v : List ℕ} {needed : ℕ} (out : List ℕ) (counted : Wrote l
   -- the part of no bytes comes back as it was
   back : v ++ out ≡ out
   back = rw (counted.is, sets_past lines [] 0 (omega arith))
-
-  pub no_room : length (v ++ out) < needed → Lists lines out (NoRoom needed) (v ++ out)
-  no_room more =
-      let count : needed ≡ min (length lines) most = let n = counted.next in omega arith in
-      let longer : length out < length lines = let m : length out < needed = rw back at more in omega arith in
-      record { answer = rw (lt-leb _ _ longer, count); says = rw (lt-leb _ _ longer, count); written = rw (lt-leb _ _ longer) back }
 
   pub all_written : {w : List ℕ} {r : ℕ} → needed ≤ length (v ++ out) → Wrote lines (v ++ out) 0 w r → Lists lines out (Bytes needed) w
   all_written fits k =

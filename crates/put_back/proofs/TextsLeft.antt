@@ -1,60 +1,35 @@
 -- What is left of each list of texts at a loop's turn: its first text and the rest. Rows are taken apart over their width, so that tree rows and
 -- dropped rows have the same laws. Assumes nothing.
-use Prim.Native.Nat.{ℕ, zero, suc, ◌+◌, ◌*◌, ◌-◌, ◌≤◌, ◌<◌, min}
-use mathlib.Core.List.{List, [], ◌∷◌, ◌++◌}
+use Prim.Native.Nat.{ℕ, suc, ◌+◌, ◌*◌, ◌-◌, ◌≤◌, ◌<◌}
+use mathlib.Core.List.{List, ◌∷◌, ◌++◌}
 use mathlib.Core.Path.{◌≡◌, sym, ap, ◌∙◌}
 use native.Mathlib.Nat.{add-zero, suc-mul}
 use native.Mathlib.Numerals.{add-one}
 use native.Mathlib.Omega.{arith}
-use borrow.Author.Tests.{leb-true, leb-false, eq-eqb, ne_eqb}
-use lib.Dec.{leb}
-use lib.ListN.{length, get_or, take, drop, length-drop}
-use lib.Seq.{take_all, take_at, drop-cons, drop-drop, get_or-take, get_or-drop, length-sets, sets-eq}
+use borrow.Author.Tests.{eq-eqb, ne_eqb}
+use lib.ListN.{length, get_or, take, drop}
+use lib.Seq.{take_at, drop-cons, drop-drop, get_or-take, get_or-drop, length-sets, sets-eq}
 use Rattle.rules.specs.Flat.{tag_leaf}
 use Rattle.rules.specs.Limits.{tree_width, dropped_width}
 use Rattle.rules.specs.Tables.{part}
 use Rattle.rules.specs.PutBack.{rows_of, leaves, texts_of, token_text, texts_from, with_texts, dropped_after, back_from}
-use Rattle.rules.proofs.Characters.{either}
 use Rattle.listings.specs.Contract.{most, Wrote}
 
 one_more : (n i : ℕ) → i < n → n - i ≡ suc (n - (i + 1))
 one_more n i h = omega arith
 
-no_more : (n i : ℕ) → n ≤ i → n - i ≡ zero
-no_more n i h = omega arith
-
--- ---- a part of the text, as far as the text goes
-pub part_cut : (text : List ℕ) (start size end : ℕ) → end ≡ min (start + size) (length text) → part text start size ≡ part text start (end - start)
-part_cut text start size end e =
-    either (leb (start + size) (length text))
-    (λ inside.
-    let h = leb-true (start + size) (length text) inside in
-    let same : end - start ≡ size = omega arith in
-    rw same)
-    (λ over.
-    let h = leb-false (start + size) (length text) over in
-    let long = length-drop start text in
-    let all : length (drop start text) ≤ size = omega arith in
-    let cut : length (drop start text) ≤ end - start = omega arith in
-    take_all size (drop start text) all ∙ sym (take_all (end - start) (drop start text) cut))
-
+-- ---- a part of the text
 pub part-next : (text : List ℕ) (i end : ℕ) → i < end → end ≤ length text
     → part text i (end - i) ≡ get_or text i 0 ∷ part text (i + 1) (end - (i + 1))
 part-next text i end h inside =
     let here : i < length text = omega arith in
     rw (one_more end i h, drop-cons text i 0 here, add-one i)
 
-pub part_end : (text : List ℕ) (i end : ℕ) → end ≤ i → part text i (end - i) ≡ []
-part_end text i end h = rw (no_more end i h)
-
 -- ---- the texts of tokens from one on
 module _ (text tokens : List ℕ) (count : ℕ) where
   pub tokens-next : (i : ℕ) → i < count
       → texts_from text tokens i (count - i) ≡ token_text text tokens i ++ texts_from text tokens (i + 1) (count - (i + 1))
   tokens-next i h = rw (one_more count i h)
-
-  pub tokens-end : (i : ℕ) → count ≤ i → texts_from text tokens i (count - i) ≡ []
-  tokens-end i h = rw (no_more count i h)
 
 -- ---- rows from one on
 abbrev pub rows_from : ℕ → List ℕ → ℕ → ℕ → List (List ℕ)
@@ -88,9 +63,6 @@ module _ (text tokens dropped : List ℕ) (drops k : ℕ) where
   pub dropped-elsewhere : (i : ℕ) → i < drops → (get_or dropped (i * dropped_width + 2) 0 ≡ k → ⊥) → dropped_from i ≡ dropped_from (i + 1)
   dropped-elsewhere i h ne = rw (rows_next dropped_width dropped drops i h, row_cell dropped_width dropped i 2 (omega arith), ne_eqb _ _ ne)
 
-  pub dropped-end : (i : ℕ) → drops ≤ i → dropped_from i ≡ []
-  dropped-end i h = rw (no_more drops i h)
-
 -- ---- what is put back, from a tree row on, before which there are so many leaves
 module _ (text tree : List ℕ) (rows : ℕ) (dropped : List (List ℕ × List ℕ)) where
   abbrev pub back_at : ℕ → ℕ → List ℕ
@@ -106,9 +78,6 @@ module _ (text tree : List ℕ) (rows : ℕ) (dropped : List (List ℕ × List �
   pub back_other : (k i : ℕ) → i < rows → (get_or tree (i * tree_width) 0 ≡ tag_leaf → ⊥) → back_at k i ≡ back_at k (i + 1)
   back_other k i h ne =
       rw (rows_next tree_width tree rows i h, row_first tree_width tree i (omega arith), ne_eqb _ _ ne)
-
-  pub back_end : (k i : ℕ) → rows ≤ i → back_at k i ≡ dropped_after k dropped
-  back_end k i h = rw (no_more rows i h)
 
 -- ---- what is written whole stands at the buffer's start
 pub written : {x t v : List ℕ} {r : ℕ} → Wrote x t 0 v r → length t < most → r ≤ length v → take r v ≡ x

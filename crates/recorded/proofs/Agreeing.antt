@@ -1,20 +1,20 @@
--- When a run gave what is recorded, as the code asks it: number after number, the rows, and what lies behind them. Assumes nothing.
+-- When an accepted run gave what is recorded, as the code asks it: number after number, the rows, and what lies behind them. Assumes nothing.
 use Prim.Native.Nat.{ℕ, zero, suc, ◌+◌, ◌*◌, ◌-◌}
 use mathlib.Core.Bool.{true, false}
 use mathlib.Core.List.{List}
 use mathlib.Core.Path.{◌≡◌, sym, ap, ◌∙◌}
 use native.Mathlib.Nat.{sub-zero}
 use native.Mathlib.Omega.{arith}
-use borrow.Author.Tests.{eqb-true, eq-eqb, ne_eqb}
+use borrow.Author.Tests.{eqb-true, eq-eqb}
 use lib.Dec.{eqb}
 use lib.ListN.{length, take, drop, replicate, take-append-drop}
 use lib.Seq.{take_at, drop_at}
 use Rattle.rules.specs.Limits.{tree_width, dropped_width}
-use Rattle.rules.specs.Run.{Answer, accepted, refused_at, Ran, over}
+use Rattle.rules.specs.Run.{Answer, accepted, Ran, over}
 use Rattle.rules.specs.Sheet.{number_at}
 use Rattle.rules.proofs.Characters.{either}
 use Rattle.listings.specs.Stands.{ran_of}
-use Rattle.listings.specs.declared.answer.Answer.TheVariants.{Accepted, Refused}
+use Rattle.listings.specs.declared.answer.Answer.TheVariants.{Accepted}
 use Rattle.compare.specs.Tells.{AllFrom}
 use Rattle.recorded.specs.Compared.{RowsAre}
 use Rattle.recorded.specs.Recorded.{tree_form, dropped_form, rows_at, rows_end, before, Agrees}
@@ -120,50 +120,4 @@ module _ (case : List ℕ) (at : ℕ) (tree dropped : List ℕ) (rows drops : �
         ends = rw (eq-eqb _ _ none, ← row_count, ← drop_count) at k.ends;
         tree_rest = over-rest trees tree _ before trees_long tree_is;
         dropped-rest = over-rest others dropped _ before others_long dropped-is;
-      }
-
--- ---- a refused run
-zeros : (buffer : List ℕ) → AllFrom buffer 0 0 → buffer ≡ replicate (length buffer) 0
-zeros buffer e = rw sub-zero at e
-
-all_zeros : (buffer : List ℕ) → buffer ≡ replicate (length buffer) 0 → AllFrom buffer 0 0
-all_zeros buffer e = rw sub-zero e
-
-module _ (case : List ℕ) (at : ℕ) (tree dropped : List ℕ) (number place : ℕ) where
-  abbrev pub Refuses : Type 0
-  Refuses = Agrees case at (ran_of (Refused number place) tree dropped)
-
-  pub record AsRefused : Type 0 where
-    pub some : number_at case at ≡ 0 → ⊥
-    pub number_is : number ≡ number_at case at
-    pub place_is : place ≡ number_at case (at + 4)
-    pub ends : at + 8 ≡ length case
-    pub tree_zeros : AllFrom tree 0 0
-    pub dropped-zeros : AllFrom dropped 0 0
-
-  pub agrees_refused : AsRefused → Refuses
-  agrees_refused k =
-      let is_some = ne_eqb _ _ k.some in
-      let tree_is = zeros tree k.tree_zeros in
-      let dropped-is = zeros dropped k.dropped-zeros in
-      record {
-        is = rw (is_some, ← k.number_is, ← k.place_is) (same-ran (refused_at number place) tree_is dropped-is);
-        ends = rw is_some k.ends;
-      }
-
-  some_refused : Refuses → number_at case at ≡ 0 → ⊥
-  some_refused k none = let same = ap (λ (r : Ran). r.answer) (rw (eq-eqb _ _ none) at k.is) in never (cc)
-
-  pub refused-agrees : Refuses → AsRefused
-  refused-agrees k =
-      let is_some = ne_eqb _ _ (some_refused k) in
-      let is = rw is_some at k.is in
-      let same = ap (λ (r : Ran). r.answer) is in
-      record {
-        some = some_refused k;
-        number_is = cc;
-        place_is = cc;
-        ends = rw is_some at k.ends;
-        tree_zeros = all_zeros tree (ap (λ (r : Ran). r.tree) is);
-        dropped-zeros = all_zeros dropped (ap (λ (r : Ran). r.dropped) is);
       }

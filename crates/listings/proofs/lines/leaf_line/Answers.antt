@@ -1,0 +1,8 @@
+-- The depth and then the rest of the line.
+use Rattle.rules.specs.Listing.{line}
+use Rattle.listings.proofs.Writing.{then}
+use Rattle.listings.proofs.lines.leaf_line.Goals as goal
+
+pub returns : goal.returns
+unfolding line
+returns c = search then
