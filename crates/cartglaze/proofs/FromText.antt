@@ -50,7 +50,7 @@ module _ (t : Tables) {before after : List ℕ} {count : ℕ} (cut : Cut t befor
   never_refused_3 e = tokenised.never_refused_3 t tree dropped before answered rows (ap (λ (r : Ran). r.answer) e)
 
   -- leaf texts and dropped texts put back, each in its token's source range, are the text, byte for byte
-  pub text-returns : {tree_rows drops : ℕ} {v w : List ℕ} → Met t tree dropped tree_rows drops v w
-      → formula_text (kept t.text t.tokens (tree_rows tree_rows v) (dropped_rows drops w)) ≡ t.text
+  pub text-returns : {row_count drops : ℕ} {v w : List ℕ} → Met t tree dropped row_count drops v w
+      → formula_text (kept t.text t.tokens (tree_rows row_count v) (dropped_rows drops w)) ≡ t.text
   text-returns met =
       rw met at (rules.text-returns t tree dropped (ap (λ (r : Ran). r.answer) met) are)

@@ -2,25 +2,46 @@
 // accepted ones the texts were put back, and of how many they are not the token texts.
 #![tactic(auto)]
 
-ghost use Rattle.io.specs.Counts.{IsPrefixLen};
+ghost use Rattle.std.specs.Prelude.{IfOk};
+ghost use Rattle.std.specs.Io.{ReadsAtMost};
+ghost use Rattle.replay.specs.Tallied.{Tallies};
 
-use libc::STDOUT_FILENO;
 use replay::{Replayed, Tally, replay};
 use sheets::number;
+use std::io::Read;
+use std::{fs, io};
+
+// Each case of the list has at most so many bytes.
+const LARGEST_CASE: usize = 65_536;
+
+// Reads until the buffer is full or the input ends: how many bytes of the buffer's front were read.
+fn read_full(input: &mut impl Read, buffer: &mut [u8]) -> io::Result<usize>
+    ensures { ReadsAtMost result buffer.new }
+{
+    let mut done = 0;
+    while done < buffer.len() {
+        let count = input.read(&mut buffer[done..])?;
+        if count == 0 {
+            break;
+        }
+        done += count;
+    }
+    Ok(done)
+}
 
 // The next case into the buffer: how many bytes it has, 0 at the end.
-fn read_case(fd: i32, case: &mut [u8]) -> usize
-    ensures { IsPrefixLen result case.new }
+fn read_case(input: &mut impl Read, case: &mut [u8]) -> io::Result<usize>
+    ensures { ReadsAtMost result case.new }
 {
     let mut length = [0u8; 4];
-    if io::read_full(fd, &mut length) < 4 {
-        return 0;
+    if read_full(input, &mut length)? < 4 {
+        return Ok(0);
     }
     let size = number(&length, 0);
     if case.len() < size {
-        return 0;
+        return Ok(0);
     }
-    io::read_full(fd, &mut case[..size])
+    read_full(input, &mut case[..size])
 }
 
 // A case's replay, or that there is none left.
@@ -30,42 +51,35 @@ enum Next {
     Case(Replayed),
 }
 
-fn replay_next(fd: i32) -> Next {
-    let mut case = io::large_buffer();
-    let size = read_case(fd, &mut case);
+fn replay_next(input: &mut impl Read) -> io::Result<Next> {
+    let mut case = [0u8; LARGEST_CASE];
+    let size = read_case(input, &mut case)?;
     if size == 0 {
-        return Next::End;
+        return Ok(Next::End);
     }
-    Next::Case(replay(&case[..size]))
+    Ok(Next::Case(replay(&case[..size])))
 }
 
-fn print_line(count: u64, what: &[u8], differences: u64) {
-    io::print_decimal(STDOUT_FILENO, count);
-    io::write_all(STDOUT_FILENO, what);
-    io::print_decimal(STDOUT_FILENO, differences);
-    io::write_all(STDOUT_FILENO, b" differences\n");
-}
-
-fn replay_all(fd: i32) {
+// What came of the cases, of `Tally::MOST` at most.
+fn replay_all(input: &mut impl Read) -> io::Result<Tally>
+    ensures { IfOk result Tallies }
+{
     let mut tally = Tally::NONE;
     while tally.cases < Tally::MOST {
-        let next = replay_next(fd);
+        let next = replay_next(input)?;
         let Next::Case(replayed) = next else {
             break;
         };
         tally = tally.with(replayed);
     }
-    print_line(tally.cases, b" cases, ", tally.differences);
-    print_line(tally.accepted, b" accepted cases put back, ", tally.lost);
+    Ok(tally)
 }
 
-fn main() {
-    let name = b"cases.bin";
-    let fd = os::open_read(name);
-    if fd < 0 {
-        os::fail(name);
-        return;
-    }
-    replay_all(fd);
-    libc::close(fd);
+fn main(rt: HostRuntime) -> io::Result<()> {
+    let mut list = fs::open(&rt, "cases.bin")?;
+    let tally = replay_all(&mut list)?;
+    let (cases, differences) = (tally.cases, tally.differences);
+    println!(rt; "{cases} cases, {differences} differences")?;
+    let (accepted, lost) = (tally.accepted, tally.lost);
+    println!(rt; "{accepted} accepted cases put back, {lost} differences")
 }

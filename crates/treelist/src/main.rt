@@ -4,23 +4,19 @@
 mod printed;
 mod sizes;
 
-use libc::{STDIN_FILENO, STDOUT_FILENO};
 use printed::print;
 use sizes::Sizes;
+use std::io;
+use std::io::{Read, Write};
 
-fn main() {
-    let mut sheet = [0u8; Sizes::SHEET];
-    let size = io::read_full(STDIN_FILENO, &mut sheet);
+fn main(rt: HostRuntime) -> io::Result<()> {
+    let mut sheet = Vec::new(rt.alloc());
+    let mut input = rt.stdin().take(Sizes::SHEET as u64);
+    input.read_to_end(&mut sheet)?;
     let mut table = [0u32; Sizes::TABLE];
     let mut tree = [0u32; Sizes::TREE];
     let mut dropped = [0u32; Sizes::DROPPED];
     let mut out = [0u8; Sizes::OUT];
-    let count = print(
-        &sheet[..size],
-        &mut table,
-        &mut tree,
-        &mut dropped,
-        &mut out,
-    );
-    io::write_all(STDOUT_FILENO, &out[..count]);
+    let count = print(&sheet, &mut table, &mut tree, &mut dropped, &mut out);
+    rt.stdout().write_all(&out[..count])
 }
