@@ -14,7 +14,7 @@ use Rattle.builder.specs.Stands.{rows_of, out_of}
 use Rattle.builder.specs.declared.Built.{Built}
 use Rattle.builder.specs.declared.Built.TheVariants.{Went, Refused}
 use Rattle.builder.specs.declared.GreenNodeBuilder.{GreenNodeBuilder}
-use Rattle.builder.proofs.dropped.drop_token.Reads as Drop-token
+use Rattle.builder.proofs.dropped.drop_token.Reads as drop_token
 use Rattle.builder.proofs.GreenNodeBuilder.checkpoint.Reads as checkpoint
 use Rattle.builder.proofs.GreenNodeBuilder.finish_node.Reads as finish-node
 use Rattle.builder.proofs.GreenNodeBuilder.frame.Reads as frame
@@ -75,5 +75,5 @@ only_finish_node = record { same = λ κs a x y e f. did }
 pub only_wrap : OnlyLent (λ κs e. e.1.0.now) wrap.Post
 only_wrap = record { same = λ κs a x y e f. did }
 
-pub only_drop_token : OnlyLent (λ κs e. e.0.now) Drop-token.Post
+pub only_drop_token : OnlyLent (λ κs e. e.0.now) drop_token.Post
 only_drop_token = record { same = λ κs a x y e f p q. (refl, p ∙ sym q) }

@@ -15,7 +15,7 @@ use Rattle.rules.specs.Flat.{Built, Mark}
 use Rattle.rules.specs.Limits.{tree_width, dropped_width}
 use Rattle.rules.specs.Outcome.{Out, went, refused, no_room}
 use Rattle.rules.specs.Position.{Pos}
-use Rattle.rules.specs.Run.{Ran, accepted, refused_at, over, after_reading, afterChecks, run}
+use Rattle.rules.specs.Run.{Ran, accepted, refused_at, over, after_reading, after_checks, run}
 use Rattle.rules.specs.Tables.{token_count}
 use Rattle.rules.proofs.Checks as checked
 use Rattle.rules.proofs.Goes.{Goes, goes}
@@ -64,7 +64,7 @@ over-alike rows buffer buffer' n long = take_at rows (drop (length rows) buffer'
 
 -- an accepted run has passed the checks
 passed_checks : (t : Tables) (tree dropped : List ℕ) {rows drops : ℕ} (o : Option Refusal)
-    → (afterChecks o t tree dropped).answer ≡ accepted rows drops
+    → (after_checks o t tree dropped).answer ≡ accepted rows drops
     → o ≡ none
 passed_checks t tree dropped none e = refl
 passed_checks t tree dropped (some refusal) e = cc
@@ -108,15 +108,15 @@ module _ (t : Tables) (tree tree' dropped dropped' : List ℕ) where
   read-refused (refused number place) u more e = rw (more (cc))
 
   module _ (larger : length tree ≤ length tree') where
-    after-accepted : {rows drops : ℕ} → checks t (length dropped) ≡ none → (afterChecks none t tree dropped).answer ≡ accepted rows drops
-        → SameAccepted rows drops (afterChecks none t tree dropped) (afterChecks none t tree' dropped')
+    after-accepted : {rows drops : ℕ} → checks t (length dropped) ≡ none → (after_checks none t tree dropped).answer ≡ accepted rows drops
+        → SameAccepted rows drops (after_checks none t tree dropped) (after_checks none t tree' dropped')
     after-accepted passed e =
         let all_read = rows_read (length tree) (source_of t) (sound t (length dropped) (checked.accepted t (length dropped) passed)) in
         read-accepted _ _ (rules.accepted_with_more (length tree) (length tree') larger (source_of t)) all_read e
 
     -- the room is no part of what refusals 1 to 4 judge
-    after-refused : {number place : ℕ} (o : Option Refusal) → (number ≡ no_room → ⊥) → (afterChecks o t tree dropped).answer ≡ refused_at number place
-        → (afterChecks o t tree' dropped').answer ≡ refused_at number place
+    after-refused : {number place : ℕ} (o : Option Refusal) → (number ≡ no_room → ⊥) → (after_checks o t tree dropped).answer ≡ refused_at number place
+        → (after_checks o t tree' dropped').answer ≡ refused_at number place
     after-refused none other e = read-refused _ _ (rules.refused-with_more (length tree) (length tree') larger (source_of t) _ _ other) e
     after-refused (some refusal) other e = e
 

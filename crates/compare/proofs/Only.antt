@@ -5,7 +5,7 @@ use Rattle.compare.specs.Tells.{Tells}
 use Rattle.compare.proofs.Telling.{only}
 use Rattle.compare.proofs.wide.Reads as wide
 use Rattle.compare.proofs.same.Reads as same
-use Rattle.compare.proofs.all_from.Reads as All-from
+use Rattle.compare.proofs.all_from.Reads as all_from
 use Rattle.compare.proofs.stand_at.Reads as stand-at
 
 -- for every crate
@@ -16,5 +16,5 @@ told = record { same = λ κs a r s e t u. only r s t u }
 pub equations : Only wide.Post
 equations = equal
 
-pub answers : Only same.Post × Only All-from.Post × Only stand-at.Post
+pub answers : Only same.Post × Only all_from.Post × Only stand-at.Post
 answers = (told, told, told)

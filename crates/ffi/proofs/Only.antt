@@ -22,7 +22,7 @@ use Rattle.ffi.specs.Exported.{HandsOut, answer_from, ran_from, Hands, listed_fr
 use Rattle.ffi.specs.declared.sheet.Counts.{Counts}
 use Rattle.ffi.proofs.cartglaze_is_display.Reads as is-display
 use Rattle.ffi.proofs.cartglaze_is_inline.Reads as is-inline
-use Rattle.ffi.proofs.cartglaze_is_leaf.Reads as is_IsLeaf
+use Rattle.ffi.proofs.cartglaze_is_leaf.Reads as is_leaf
 use Rattle.ffi.proofs.cartglaze_is_valid.Reads as is-valid
 use Rattle.ffi.proofs.cartglaze_is_whole.Reads as is_whole
 use Rattle.ffi.proofs.cartglaze_leaf_length.Reads as leaf-length
@@ -67,7 +67,7 @@ pub questions :
     × Only is-inline.Post
     × Only is-valid.Post
     × Only is_whole.Post
-    × Only is_IsLeaf.Post
+    × Only is_leaf.Post
     × Only leaf-start.Post
     × Only leaf-length.Post
 questions = (equal, equal, equal, equal, equal, equal, equal)

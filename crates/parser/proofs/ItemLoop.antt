@@ -25,7 +25,7 @@ use Rattle.state.specs.declared.Step.TheVariants.{Went}
 use Rattle.state.proofs.Building.{mark_more}
 use Rattle.routines.proofs.Eating.{asked-there}
 use Rattle.state.proofs.Walk.{Rule, line, last_step, Walk, begins, turns, passes, forgets, leaves, stops, arrives, Stopped}
-use Rattle.parser.specs.Member.{Next, NextIf, LastAfter, Behind, mark_here, goes_on, stops_of, more as moreOf, gain_of, inner_at, list_items, items_of}
+use Rattle.parser.specs.Member.{Next, NextIf, LastAfter, Behind, mark_here, goes_on, stops_of, more as more_of, gain_of, inner_at, list_items, items_of}
 use Rattle.parser.specs.declared.lists.Extent.{Extent}
 use Rattle.parser.specs.declared.lists.Extent.TheVariants.{List as Scoped, Greedy, Item as OneItem}
 use Rattle.parser.proofs.Cycle.{runs, remarks}
@@ -160,7 +160,7 @@ module _ (t : Tables) (p : Parser) (m : Buffers) where
 
 -- whether an item is read next
 abbrev pub asks : Tables → Parser → Extent → Bool → Bool
-asks t q e first = moreOf e first (scope_at q.list.scope) (peek t.tokens (cursor_of q.lexer))
+asks t q e first = more_of e first (scope_at q.list.scope) (peek t.tokens (cursor_of q.lexer))
 
 module _ (t : Tables) (p : Parser) (m : Buffers) where
   abbrev Held : Extent → Bool → Parser → Buffers → Type 0

@@ -35,14 +35,14 @@ abbrev pub attached : ℕ → Shape → Bool
 attached kind shape = attachable kind (shape_for shape)
 
 module _ {tokens shapes : List ℕ} {shape : Shape} (p q : Parser)
-    (Shape-is : (text states : List ℕ) → shape_for shape ≡ shape_of (tables text tokens shapes states) p.lexer.token) where
+    (shape_is : (text states : List ℕ) → shape_for shape ≡ shape_of (tables text tokens shapes states) p.lexer.token) where
   -- the rule's question has the code's answer
   asks : (t : Tables) → t.tokens ≡ tokens → t.shapes ≡ shapes → (b : Bool) → attached (kind_at tokens p.lexer.token) shape ≡ b
       → attachable (kind_at t.tokens p.lexer.token) (shape_of t p.lexer.token) ≡ b
   asks t seen-tokens seen-shapes b e =
       let token = p.lexer.token in
       let same : shape_of t token ≡ shape_of (tables t.text tokens shapes t.states) token = rw (← seen-tokens, ← seen-shapes) refl in
-      rw (same, ← Shape-is t.text t.states, seen-tokens) e
+      rw (same, ← shape_is t.text t.states, seen-tokens) e
 
   pub last_moved : {mark : KeptMark} {r : Parser} → attached (kind_at tokens p.lexer.token) shape ≡ true → 0 < p.builder.rows
       → mark ≡ mark_here p → r ≡ remarked q q.list.start mark → LastAfter tokens shapes p q r

@@ -29,8 +29,8 @@ pub word-there : (tokens : List ℕ) (c : Cursor) → asked is_word (peek tokens
     → (c.token < token_count tokens) × (kind_at tokens c.token ≡ Word)
 word-there tokens c e =
     let there = asked-there is_word tokens c e in
-    let is_IsWord = sym (ap (asked is_word) (peek-some tokens c there)) ∙ e in
-    (there, eqb-true (kind_at tokens c.token) Word is_IsWord)
+    let word_is = sym (ap (asked is_word) (peek-some tokens c there)) ∙ e in
+    (there, eqb-true (kind_at tokens c.token) Word word_is)
 
 a_word : (k : Option ℕ) → asked is_word k ≡ true → k ≡ some Word
 a_word none e = absurd (false≢true e)

@@ -261,7 +261,8 @@ fn match_arguments(
     shape: Shape,
 ) -> Step
     requires { let t = given text tokens shapes states in Ready t p (lent tree dropped) }
-    ensures { Opened text tokens shapes states tree dropped p result 0 (λ t n inner. spec.arguments_of (flat n) (source_of t) inner (shape_for shape)) }
+    ensures { Opened text tokens shapes states tree dropped p result 0
+        (λ t n inner. spec.arguments_of (flat n) (source_of t) inner (shape_for shape)) }
 {
     if shape.name_only() {
         return Step::Went(p.holding_none());
@@ -295,7 +296,8 @@ fn greedy_command(
     at: Mark,
 ) -> Step
     requires { let t = given text tokens shapes states in Ready t p (lent tree dropped) × Next t p × MarkOk (kept_of at) p.builder }
-    ensures { Opened text tokens shapes states tree dropped p result 1 (λ t n inner. spec.greedy_command (flat n) (source_of t) inner (option_of at)) }
+    ensures { Opened text tokens shapes states tree dropped p result 1
+        (λ t n inner. spec.greedy_command (flat n) (source_of t) inner (option_of at)) }
 {
     let opened = start_around(tree, p, SyntaxKind::ITEM_CMD, at);
     let Step::Went(begun) = opened else {

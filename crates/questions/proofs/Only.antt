@@ -17,7 +17,7 @@ use Rattle.questions.proofs.formula.is_display.Reads as is-display
 use Rattle.questions.proofs.formula.is_inline.Reads as is-inline
 use Rattle.questions.proofs.formula.is_valid.Reads as is-valid
 use Rattle.questions.proofs.formula.is_whole.Reads as is_whole
-use Rattle.questions.proofs.leaf.is_leaf.Reads as is_IsLeaf
+use Rattle.questions.proofs.leaf.is_leaf.Reads as is_leaf
 use Rattle.questions.proofs.leaf.leaf_range.Reads as leaf-range
 use Rattle.questions.proofs.matched.matched.Reads as matched
 use Rattle.questions.proofs.rows.cell.Reads as cell
@@ -26,7 +26,7 @@ use Rattle.questions.proofs.tokens.first_token.Reads as first-token
 use Rattle.questions.proofs.tokens.formula.Reads as formula
 use Rattle.questions.proofs.tokens.last_token.Reads as last-token
 
-pub questions : Only is-display.Post × Only is-inline.Post × Only is-valid.Post × Only is_whole.Post × Only is_IsLeaf.Post
+pub questions : Only is-display.Post × Only is-inline.Post × Only is-valid.Post × Only is_whole.Post × Only is_leaf.Post
 questions = (equal, equal, equal, equal, equal)
 
 -- inside the crate

@@ -356,9 +356,11 @@ module _ (room : ℕ) where
 
   start_ats : StartAtKeeps (flat room) (rowan room) NoSkip Known Alike
   unfolding Flat.start_at Rowan.start_node_at Rowan.pushed Flat.started_at
-  start_ats place kind _ _ older w _ _ (alike {t} {cs} {dropped} tied (inside {k} {first} {from} {ps} begun (falls {m} {n} count below row falling) levels)) =
+  start_ats place kind _ _ older w _ _ (alike {t} {cs} {dropped} tied (inside {k} {first} {from} {ps} begun
+      (falls {m} {n} count below row falling) levels)) =
       rw (le-ltb (length cs) n below)
-      (on_tree~ (record { tree = t; dropped = dropped }) (gate~ mark_before_node place (ltb m.children t.first) (ltb n first) (omega arith) (ap₂ ltb count begun.is) (λ e.
+      (on_tree~ (record { tree = t; dropped = dropped }) (gate~ mark_before_node place (ltb m.children t.first) (ltb n first) (omega arith) (ap₂ ltb count begun.is)
+      (λ e.
       let inside = ltb-false m.children t.first e in
       deep~ place t (parent k first from ∷ ps) tied.depth (room~ place t.rows (went~
       (opened place kind tied begun (record { count = count; low = omega arith; high = below; row = row }) falling levels))))))

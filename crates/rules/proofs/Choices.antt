@@ -120,7 +120,8 @@ pub greedy-is : (form value : ℕ) → is_greedy (start_match form value) ≡ am
 unfolding start_match
 greedy-is form value = fixed-or form value (eqb form form_fixed) refl
 
-name-or : (form : ℕ) (s t value : Bool) → eqb form form_none ≡ s → eqb form form_fixed ≡ t → s || (t && value) ≡ true → among form greedy_forms ≡ false
+name-or : (form : ℕ) (s t value : Bool) → eqb form form_none ≡ s → eqb form form_fixed ≡ t → s || (t && value) ≡ true
+    → among form greedy_forms ≡ false
 name-or form true t value e d named = known form form_none e
 name-or form false true value e d named = known form form_fixed d
 name-or form false false value e d named = absurd (false≢true named)
@@ -145,7 +146,7 @@ module _ (source : Source) where
   Fits word token = Unit {0}
   Fits comma token = Unit {0}
   Fits (group scope) token = Unit {0}
-  Fits (attachment hasScript) token = Unit {0}
+  Fits (attachment has_script) token = Unit {0}
   Fits command token = Unit {0}
   Fits environment token = Unit {0}
   Fits left_right token = Unit {0}

@@ -775,22 +775,22 @@ module _ (room : ℕ) (source : Source) where
     unfolding item_lr
     item_lr-in g p h = node_in SyntaxKind.ItemLR refl (clause_lr-in and item_list-in Scope.LR and right_clause-in and no_more) g p h
 
-    script-in : (hasScript : Bool) → Keep (script B source inner hasScript)
+    script-in : (has_script : Bool) → Keep (script B source inner has_script)
     unfolding script
     script-in true g p h = steps-go (trivia-in g then keeps true g then done) p h
     script-in false g p h = goes h
 
-    attachment_at-in : (hasScript : Bool) (o : Option ℕ) → Keep (attachment_at B source inner hasScript o)
+    attachment_at-in : (has_script : Bool) (o : Option ℕ) → Keep (attachment_at B source inner has_script o)
     unfolding attachment_at
-    attachment_at-in hasScript o g p h =
+    attachment_at-in has_script o g p h =
         let kind = SyntaxKind.ItemAttachComponent in
         let begun = start_around-begun (dropped_all source) kind o g p (wraps_all (place B p)) h in
         let ordinary = other kind (place B p) refl in
-        begun_in (start_around B source kind o) p (weaker_goes as_under begun) ordinary (eat-in and script-in hasScript and no_more)
+        begun_in (start_around B source kind o) p (weaker_goes as_under begun) ordinary (eat-in and script-in has_script and no_more)
 
-    attach_to-in : (hasScript : Bool) (o : Option ℕ) → Keep (attach_to B source inner hasScript o)
+    attach_to-in : (has_script : Bool) (o : Option ℕ) → Keep (attach_to B source inner has_script o)
     unfolding attach_to
-    attach_to-in hasScript (some mark) g p h = attachment_at-in hasScript (some mark) g p h
+    attach_to-in has_script (some mark) g p h = attachment_at-in has_script (some mark) g p h
     attach_to-in true none g p h = attachment_at-in true none g p h
     attach_to-in false none g p h = eat-in g p h
 
@@ -803,7 +803,7 @@ module _ (room : ℕ) (source : Source) where
     read_item-in single word g p fits h = cond_goes single (λ _. single_char-in g p h) (λ _. text_in g p h)
     read_item-in single comma g p fits h = text_in g p h
     read_item-in single (group scope) g p fits h = item_group-in scope g p h
-    read_item-in single (attachment hasScript) g p fits h = attach_to-in hasScript p.list.last g p h
+    read_item-in single (attachment has_script) g p fits h = attach_to-in has_script p.list.last g p h
     read_item-in single command g p fits h = command_of-in (of_class class_command (source.shape (place B p))) g p refl h
     read_item-in single environment g p fits h = environment_item-in g p h
     read_item-in single left_right g p fits h = item_lr-in g p h

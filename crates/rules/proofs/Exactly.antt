@@ -19,7 +19,7 @@ use Rattle.rules.specs.Outcome.{Out, went, refused}
 use Rattle.rules.specs.Position.{Pos, Source}
 use Rattle.rules.specs.Reading.{parse}
 use Rattle.rules.specs.Rowan.{Green}
-use Rattle.rules.specs.Run.{accepted, over, after_reading, afterChecks, run}
+use Rattle.rules.specs.Run.{accepted, over, after_reading, after_checks, run}
 use Rattle.rules.specs.Tree.{Tree, layout}
 use Rattle.rules.proofs.Alike as alike
 use Rattle.rules.proofs.Alike.{FlatRun, RowanRun, Whole, SameRun, both_went, both_refused}
@@ -33,11 +33,11 @@ use Rattle.rules.proofs.Room.{accepted_with_more}
 -- ---- runs
 
 -- the tree of a run, whose rows these are; and the dropped rows are those of the tree
-pub record Exactly (room : ℕ) (source : Source) (rows rowsDropped : List ℕ) : Type 0 where
+pub record Exactly (room : ℕ) (source : Source) (rows rows_dropped : List ℕ) : Type 0 where
   pub tree : Tree
   pub of : TreeOf room source tree
   pub laid : rows ≡ layout tree
-  pub only : rowsDropped ≡ dropped source tree
+  pub only : rows_dropped ≡ dropped source tree
 
 the_child : {x y : Tree} → ◌≡◌ {A = List Tree} (x ∷ []) (y ∷ []) → x ≡ y
 the_child e = cc
@@ -135,8 +135,8 @@ module _ (t : Tables) (tree buffer : List ℕ) (rows count : ℕ) where
       }
 
   checked : (o : Option Refusal)
-      → (afterChecks o t tree buffer).answer ≡ accepted rows count
-      → RanExactly t (length tree) rows count (afterChecks o t tree buffer)
+      → (after_checks o t tree buffer).answer ≡ accepted rows count
+      → RanExactly t (length tree) rows count (after_checks o t tree buffer)
   checked (some refusal) is = let z : ◌≡◌ {A = ℕ} 0 1 = cc in absurd (omega arith)
   checked none is = reading (parse (flat (length tree)) (source_of t) Flat.empty) refl is
 

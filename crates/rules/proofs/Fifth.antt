@@ -17,7 +17,7 @@ use Rattle.rules.specs.Position as position
 use Rattle.rules.specs.Position.{Pos, with_built}
 use Rattle.rules.specs.PutBack.{rows_of, Stretch, leaves, Parts, last, more, EachToken, end, leaf, split, drops, stretch_at, InToken}
 use Rattle.rules.specs.Questions.{tag_at}
-use Rattle.rules.specs.Tables.{cell, token_count, start_at as tokenStart, length_at}
+use Rattle.rules.specs.Tables.{cell, token_count, start_at as token_start, length_at}
 use Rattle.rules.proofs.Characters.{either}
 use Rattle.rules.proofs.Flat.{start-full, start-went, finish-full, finish-went, at-full, at-went}
 
@@ -43,13 +43,13 @@ module _ (tokens : List ℕ) where
   -- the parts of a token's range, or of its end, lie inside it
   parts_inside : {token start size : ℕ} {parts : List Stretch}
       → token < token_count tokens
-      → tokenStart tokens token ≤ start
-      → start + size ≤ tokenStart tokens token + length_at tokens token
+      → token_start tokens token ≤ start
+      → start + size ≤ token_start tokens token + length_at tokens token
       → Parts token start size parts
       → Every (InToken tokens) parts
   parts_inside there low high (last some) = record { there = there; low = low; high = high } also none
   parts_inside {token} there low high (more {start} {size} some rest) =
-      let ends : start + size ≤ tokenStart tokens token + length_at tokens token = omega arith in
+      let ends : start + size ≤ token_start tokens token + length_at tokens token = omega arith in
       record { there = there; low = low; high = ends } also parts_inside there (omega arith) (omega arith) rest
 
   all_inside : {i k : ℕ} {ls : List Stretch} {dropped : List (List ℕ)} → EachToken tokens i k ls dropped → Every (InToken tokens) ls
@@ -185,7 +185,8 @@ module _ (room kind : ℕ) (p q : Here) where
       let rule : ℕ → Out Rows = λ n. start n place kind rows in
       made_by p q rule (start-place room place kind rows q.built.tree (rows_went p q (rule room) e))
 
-  pub start_at_made : (m : Mark) → position.start_at (flat room) kind m p ≡ went q → Made (λ n. position.start_at (flat n) kind m p) (start_row kind) p q
+  pub start_at_made : (m : Mark) → position.start_at (flat room) kind m p ≡ went q
+      → Made (λ n. position.start_at (flat n) kind m p) (start_row kind) p q
   start_at_made m e =
       let rule : ℕ → Out Rows = λ n. start_at n place kind m rows in
       made_by p q rule (start_at_place room place kind rows q.built.tree m (rows_went p q (rule room) e))

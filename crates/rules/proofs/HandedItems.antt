@@ -86,7 +86,7 @@ module _ (source : Source) where
   Begins word c = AtWord source c
   Begins comma c = Unit {0}
   Begins (group scope) c = Unit {0}
-  Begins (attachment hasScript) c = Unit {0}
+  Begins (attachment has_script) c = Unit {0}
   Begins command c = Unit {0}
   Begins environment c = Unit {0}
   Begins left_right c = Unit {0}
@@ -203,7 +203,8 @@ module _ {B : Builder} {source : Source} (K : Handed B source) (sound : Sound so
       greedy_argument-if : Takes (F n) (F n) (greedy_argument B source i)
       unfolding greedy_argument
       greedy_argument-if p h =
-          from_goes (start-if K sound SyntaxKind.ClauseArgument p h first greedy_items-if then finish-if K sound SyntaxKind.ClauseArgument _ then done)
+          from_goes (start-if K sound SyntaxKind.ClauseArgument p h first greedy_items-if
+          then finish-if K sound SyntaxKind.ClauseArgument _ then done)
 
       arguments_of-if : (s : Shape) → Takes (F n) (H n) (arguments_of B source i s)
       unfolding arguments_of
@@ -211,7 +212,7 @@ module _ {B : Builder} {source : Source} (K : Handed B source) (sound : Sound so
           cond_goes (name_only s) (λ _. goes (held_none K sound p h))
           (λ _. cond_goes (is_greedy (start_match s.form s.value)) (λ _. stopped greedy_environment (place B p)) (λ _. match_arguments-if _ p h))
 
-      script-if : (hasScript : Bool) → Takes (F n) (F n) (script B source i hasScript)
+      script-if : (has_script : Bool) → Takes (F n) (F n) (script B source i has_script)
       unfolding script
       script-if true p h = from_goes (trivia-if K sound p h first inner.any true n then done)
       script-if false p h = goes h
@@ -261,18 +262,18 @@ module _ {B : Builder} {source : Source} (K : Handed B source) (sound : Sound so
           then finish-if K sound SyntaxKind.ItemLR _
           then done)
 
-      attachment_at-if : (hasScript : Bool) (m : Option B.Mark) → Takes (N also n) (F n) (attachment_at B source i hasScript m)
+      attachment_at-if : (has_script : Bool) (m : Option B.Mark) → Takes (N also n) (F n) (attachment_at B source i has_script m)
       unfolding attachment_at
-      attachment_at-if hasScript m p h =
+      attachment_at-if has_script m p h =
           from_goes (start_around-if K sound SyntaxKind.ItemAttachComponent m p h
           first eat-if K sound
-          then script-if hasScript
+          then script-if has_script
           then finish-if K sound SyntaxKind.ItemAttachComponent _
           then done)
 
-      attach_to-if : (hasScript : Bool) (m : Option B.Mark) → Takes (N also n) (F n) (attach_to B source i hasScript m)
+      attach_to-if : (has_script : Bool) (m : Option B.Mark) → Takes (N also n) (F n) (attach_to B source i has_script m)
       unfolding attach_to
-      attach_to-if hasScript (some m) p h = attachment_at-if hasScript (some m) p h
+      attach_to-if has_script (some m) p h = attachment_at-if has_script (some m) p h
       attach_to-if true none p h = attachment_at-if true none p h
       attach_to-if false none p h = eat-if K sound p h
 
@@ -297,7 +298,7 @@ module _ {B : Builder} {source : Source} (K : Handed B source) (sound : Sound so
       read_item-if single word p h = cond_goes single (λ _. single_char-if K sound p h) (λ _. text-if K sound p h)
       read_item-if single comma p h = text-if K sound p h
       read_item-if single (group scope) p h = item_group-if scope p h
-      read_item-if single (attachment hasScript) p h = attach_to-if hasScript p.list.last p h
+      read_item-if single (attachment has_script) p h = attach_to-if has_script p.list.last p h
       read_item-if single command p h = command_of-if (shape_here B source class_command p) p h
       read_item-if single environment p h = environment_item-if p h
       read_item-if single left_right p h = item_lr-if p h

@@ -106,7 +106,8 @@ module _ (left : List ℕ) where
       (λ f. matched Token.Dollar 1 (omega arith) (omega arith) (omega arith) (at-dollar left f))
 
   comment : Front left 0x25
-  comment = matched Token.LineComment (1 + run is_no_break left) (omega arith) (omega arith) (omega (arith, run_fits is_no_break left)) (at-percent left)
+  comment = matched Token.LineComment (1 + run is_no_break left) (omega arith) (omega arith) (omega (arith, run_fits is_no_break left))
+      (at-percent left)
 
   pub fronts : (byte : ℕ) → Front left byte
   fronts byte =

@@ -238,7 +238,8 @@ abbrev low_kinds : ℕ → List (ℕ × ℕ) → Bool
 low_kinds most [] = true
 low_kinds most (entry ∷ more) = cond (leb entry.1 most) (low_kinds most more) false
 
-low_kind : (most other : ℕ) (entries : List (ℕ × ℕ)) (number : ℕ) → other ≤ most → low_kinds most entries ≡ true → kind_from other entries number ≤ most
+low_kind : (most other : ℕ) (entries : List (ℕ × ℕ)) (number : ℕ) → other ≤ most → low_kinds most entries ≡ true
+    → kind_from other entries number ≤ most
 low_kind most other [] number low h = low
 low_kind most other (entry ∷ more) number low h =
     either (leb entry.1 most)

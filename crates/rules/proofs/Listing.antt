@@ -73,7 +73,8 @@ module _ (tree : List ℕ) (row depth : ℕ) (there : row < row_count tree) wher
   abbrev from : ℕ
   from = row * Limits.tree_width
 
-  pub start-line : tag_at tree row ≡ tag_start → tree_line tree row depth ≡ line (decimal depth) (get_or tree (from + 1) 0 ∷ get_or tree (from + 4) 0 ∷ [])
+  pub start-line : tag_at tree row ≡ tag_start
+      → tree_line tree row depth ≡ line (decimal depth) (get_or tree (from + 1) 0 ∷ get_or tree (from + 4) 0 ∷ [])
   unfolding tree_line
   start-line is = rw (eq-eqb _ _ is)
 
@@ -210,7 +211,8 @@ accepted_few tree dropped rows count shown told low wt wd lt ld hs ht =
     let notes = dropped-lines_few dropped told 0 wd in
     omega (arith, length-append first (second ++ third), length-append second third)
 
-pub listing-few : (answer : Answer) (tree dropped : List ℕ) → InWords answer → Words tree → Words dropped → length tree ≤ tree_rows * Limits.tree_width
+pub listing-few : (answer : Answer) (tree dropped : List ℕ) → InWords answer → Words tree → Words dropped
+    → length tree ≤ tree_rows * Limits.tree_width
     → length dropped ≤ dropped_rows * Limits.dropped_width → length (listing answer tree dropped) ≤ most_printed
 unfolding listing
 listing-few (accepted rows count) tree dropped low wt wd lt ld = accepted_few tree dropped rows count _ _ low wt wd lt ld (omega arith) (omega arith)

@@ -16,7 +16,7 @@ use Rattle.rules.specs.Position.{Pos}
 use Rattle.rules.specs.PutBack.{tree_rows, dropped_rows, leaves, texts_of, Stored, stored, put_back, texts_from, token_texts, EachToken, stretch_at, InToken, Rises}
 use Rattle.rules.specs.Questions.{tag_at}
 use Rattle.rules.specs.Reading.{parse}
-use Rattle.rules.specs.Run.{accepted, over, after_reading, afterChecks, run}
+use Rattle.rules.specs.Run.{accepted, over, after_reading, after_checks, run}
 use Rattle.rules.specs.Tables.{token_count}
 use Rattle.rules.proofs.Checks
 use Rattle.rules.proofs.Fifth.{leaf-inside}
@@ -64,14 +64,14 @@ module _ (t : Tables) (tree dropped : List ℕ) where
       rw (same_rows, same-drops) at (told p.built h)
   after_reading_lem (refused number place) h e = let z : ◌≡◌ {A = ℕ} 0 1 = cc in absurd (omega arith)
 
-  after_checks : {rows drops : ℕ} (o : Option Refusal)
+  after_checks_lem : {rows drops : ℕ} (o : Option Refusal)
       → checks t (length dropped) ≡ o
-      → (afterChecks o t tree dropped).answer ≡ accepted rows drops
-      → Told rows drops (afterChecks o t tree dropped).tree (afterChecks o t tree dropped).dropped
-  after_checks none passed e =
+      → (after_checks o t tree dropped).answer ≡ accepted rows drops
+      → Told rows drops (after_checks o t tree dropped).tree (after_checks o t tree dropped).dropped
+  after_checks_lem none passed e =
       let tables = sound t (length dropped) (Checks.accepted t (length dropped) passed) in
       after_reading_lem (parse (flat (length tree)) (source_of t) empty) (rows_read (length tree) (source_of t) tables) e
-  after_checks (some refusal) passed e = let z : ◌≡◌ {A = ℕ} 0 1 = cc in absurd (omega arith)
+  after_checks_lem (some refusal) passed e = let z : ◌≡◌ {A = ℕ} 0 1 = cc in absurd (omega arith)
 
 -- ---- the theorems
 
@@ -79,7 +79,7 @@ module _ (t : Tables) (tree dropped : List ℕ) {rows drops : ℕ} (e : (run t t
   -- each token is a leaf, the parts of a split Word, or one dropped row, exactly once
   pub each-token : EachToken t.tokens 0 0 (leaves (tree_rows rows (run t tree dropped).tree)) (dropped_rows drops (run t tree dropped).dropped)
   unfolding run
-  each-token = after_checks t tree dropped (checks t (length dropped)) refl e
+  each-token = after_checks_lem t tree dropped (checks t (length dropped)) refl e
 
   -- "a leaf's own token": each leaf lies inside the range of the token that its row names
   pub leaf-token : (row : ℕ)
@@ -97,14 +97,14 @@ module _ (t : Tables) (tree dropped : List ℕ) {rows drops : ℕ} (e : (run t t
   stored_of = stored t.text t.tokens (tree_rows rows (run t tree dropped).tree) (dropped_rows drops (run t tree dropped).dropped)
 
   -- the texts of the leaves are read off the first four numbers
-  storedTexts : stored_of.leaf_texts ≡ texts_of t.text (leaves (tree_rows rows (run t tree dropped).tree))
-  storedTexts = four-texts t.text (tree_rows rows (run t tree dropped).tree)
+  stored_texts : stored_of.leaf_texts ≡ texts_of t.text (leaves (tree_rows rows (run t tree dropped).tree))
+  stored_texts = four-texts t.text (tree_rows rows (run t tree dropped).tree)
 
   -- "In every accepted run, put the dropped texts back among the leaf texts where the dropped list says: the token texts return, joined in order."
   pub texts_return : put_back stored_of ≡ token_texts t.text t.tokens
   texts_return =
       let all = texts_from t.text t.tokens in
-      rw storedTexts (rw sub-zero at (put_back_lem t.text t.tokens (λ i l. l) (λ i word l. refl) all (λ i. refl) (λ i n. refl) each-token))
+      rw stored_texts (rw sub-zero at (put_back_lem t.text t.tokens (λ i l. l) (λ i word l. refl) all (λ i. refl) (λ i n. refl) each-token))
 
 -- "So two accepted inputs whose joined texts differ never share tree, leaf texts and dropped list with its texts."
 pub never_share : (t t' : Tables) (tree dropped tree' dropped' : List ℕ) {rows drops rows' drops' : ℕ}

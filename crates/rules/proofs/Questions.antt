@@ -138,12 +138,14 @@ module _ (tree : List ℕ) (to at : ℕ) where
   unfolding first_from
   first-end end = rw (no_more to at end)
 
-pub last_step : (tree : List ℕ) (at : ℕ) {tag : ℕ} → tag ≡ tag_at tree at → last_before tree (at + 1) ≡ descend tag_finish tag at (last_before tree at)
+pub last_step : (tree : List ℕ) (at : ℕ) {tag : ℕ} → tag ≡ tag_at tree at
+    → last_before tree (at + 1) ≡ descend tag_finish tag at (last_before tree at)
 unfolding last_before
 last_step tree at is = rw (add-one, ← is)
 
 module _ (tree : List ℕ) (end : ℕ) where
-  pub last_next : {tag : ℕ} → tag ≡ tag_at tree (end - 1) → 0 < end → last_before tree end ≡ descend tag_finish tag (end - 1) (last_before tree (end - 1))
+  pub last_next : {tag : ℕ} → tag ≡ tag_at tree (end - 1) → 0 < end
+      → last_before tree end ≡ descend tag_finish tag (end - 1) (last_before tree (end - 1))
   last_next is there =
       let up : end ≡ end - 1 + 1 = omega arith in
       ap (last_before tree) up ∙ last_step tree (end - 1) is

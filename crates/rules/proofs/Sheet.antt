@@ -19,7 +19,8 @@ module _ (sheet : List ℕ) where
   numbers-long at zero = refl
   numbers-long at (suc count) = ap suc (numbers-long (at + number_bytes) count)
 
-  pub numbers_more : (at count : ℕ) → numbers_at sheet at (suc count) ≡ numbers_at sheet at count ++ (number_at sheet (at + count * number_bytes) ∷ [])
+  pub numbers_more : (at count : ℕ)
+      → numbers_at sheet at (suc count) ≡ numbers_at sheet at count ++ (number_at sheet (at + count * number_bytes) ∷ [])
   unfolding numbers_at
   numbers_more at zero = rw (add-zero at)
   numbers_more at (suc count) =

@@ -245,7 +245,8 @@ module _ (sheet : List ℕ) (bytes : Bytes sheet) where
       let n = number_at sheet at in
       let here = part sheet (bytes_from at) n in
       let size : length here ≡ n = length-take-le n (drop (bytes_from at) sheet) (omega (arith, length-drop (bytes_from at) sheet)) in
-      ap (λ (k : ℕ). bytes_of_number k ++ here) size ∙ ap (λ (l : List ℕ). l ++ here) (number_bytes_lem at (omega arith)) ∙ joined sheet at number_bytes n
+      ap (λ (k : ℕ). bytes_of_number k ++ here) size ∙ ap (λ (l : List ℕ). l ++ here) (number_bytes_lem at (omega arith))
+      ∙ joined sheet at number_bytes n
 
   table_bytes : (at : ℕ) → end_of sheet at ≤ length sheet → number_at sheet at % number_bytes ≡ 0
       → section (bytes_of_numbers (table_at sheet at)) ≡ take (number_bytes + number_at sheet at) (drop at sheet)

@@ -489,8 +489,8 @@ module _ {A B : Builder} {Skip May : ℕ → Type 0} (Z : Sim A B Skip May) wher
             steps~ (anew~ ⨾ all_items~ deep greedy_stops ⨾ relist~ (start_only marks) (around marks fits) ⨾ done~) _ _ here
 
         -- what follows `_` or `^`
-        script~ : (hasScript : Bool) (l : Marked A B)
-            → Takes (Near Z (n ◂ l ∷ w) (Among l)) (Near Z (n ◂ [] ∷ w) (Among l)) (script A source i hasScript) (script B source j hasScript)
+        script~ : (has_script : Bool) (l : Marked A B)
+            → Takes (Near Z (n ◂ l ∷ w) (Among l)) (Near Z (n ◂ [] ∷ w) (Among l)) (script A source i has_script) (script B source j has_script)
         unfolding script
         script~ true l p q h = steps~ (trivia~ ⨾ (λ p q h. weaker~ (λ p q. settled) (inner true [] l n w deep p q h)) ⨾ done~) p q h
         script~ false l p q h = went~ (forget~ (sub_nil l) h)
@@ -528,13 +528,13 @@ module _ {A B : Builder} {Skip May : ℕ → Type 0} (Z : Sim A B Skip May) wher
         greedy_command~ around newest h =
             from~ (start_around~ SyntaxKind.ItemCmd newest h ▸ eat~ ⨾ greedy_argument~ (le_step deep) around ⨾ finish~ ⨾ done~)
 
-        attachment_at~ : (hasScript : Bool) (l : Marked A B) {o : Option Two} {p : At A} {q : At B}
+        attachment_at~ : (has_script : Bool) (l : Marked A B) {o : Option Two} {p : At A} {q : At B}
             → Newest o l
             → Near Z (n ◂ l ∷ w) (Among l) p q
-            → O (Near Z (n ◂ l ∷ w) (Among l)) (attachment_at A source i hasScript (lefts o) p) (attachment_at B source j hasScript (rights o) q)
+            → O (Near Z (n ◂ l ∷ w) (Among l)) (attachment_at A source i has_script (lefts o) p) (attachment_at B source j has_script (rights o) q)
         unfolding attachment_at
-        attachment_at~ hasScript l newest h =
-            from~ (start_around~ SyntaxKind.ItemAttachComponent newest h ▸ eat~ ⨾ script~ deep hasScript l ⨾ finish~ ⨾ done~)
+        attachment_at~ has_script l newest h =
+            from~ (start_around~ SyntaxKind.ItemAttachComponent newest h ▸ eat~ ⨾ script~ deep has_script l ⨾ finish~ ⨾ done~)
 
         environment_item~ : (l live : Marked A B)
             → Quiet (n ◂ live ∷ w) (Among l) (environment_item A source i) (environment_item B source j)
@@ -587,16 +587,16 @@ module _ {A B : Builder} {Skip May : ℕ → Type 0} (Z : Sim A B Skip May) wher
             (λ _. plain~ _ (greedy_command~ deep (around_among l) (at_none _) here))
             (λ _. plain~ _ (with_arguments~ deep SyntaxKind.ItemCmd s l _ _ here)))))
 
-        attach_to~ : (hasScript : Bool) (s : Scope) (first last : Option Two) (c : Cursor) (h : ℕ) {a : A.State} {b : B.State}
+        attach_to~ : (has_script : Bool) (s : Scope) (first last : Option Two) (c : Cursor) (h : ℕ) {a : A.State} {b : B.State}
             → Sub (listed last ++ listed first) l
             → Z.R (n ◂ (front ++ l) ∷ w) a b
             → O (Behind false front l n w)
-            (attach_to A source i hasScript (lefts last) (left_at c h (record { scope = s; start = first; last = last }) a))
-            (attach_to B source j hasScript (rights last) (right_at c h (record { scope = s; start = first; last = last }) b))
+            (attach_to A source i has_script (lefts last) (left_at c h (record { scope = s; start = first; last = last }) a))
+            (attach_to B source j has_script (rights last) (right_at c h (record { scope = s; start = first; last = last }) b))
         unfolding attach_to
-        attach_to~ hasScript s first (some x) c h among r =
+        attach_to~ has_script s first (some x) c h among r =
             let here = near c h (record { scope = s; start = first; last = some x }) (sub_refl _) (own among r) in
-            wrapped~ refl among (attachment_at~ deep hasScript _ (at_first x (listed first)) here)
+            wrapped~ refl among (attachment_at~ deep has_script _ (at_first x (listed first)) here)
         attach_to~ true s first none c h among r =
             let here = near c h (record { scope = s; start = first; last = none }) among (own (sub_refl l) r) in
             wrapped~ refl (sub_refl l) (attachment_at~ deep true l (at_none l) here)
@@ -614,7 +614,7 @@ module _ {A B : Builder} {Skip May : ℕ → Type 0} (Z : Sim A B Skip May) wher
           read_item~ word kind = plain~ true (cond~ single (λ _. single_char~ _ _ (near c h m among r)) (λ _. text~ _ _ (near c h m among r)))
           read_item~ comma kind = plain~ true (text~ _ _ (near c h m among r))
           read_item~ (group scope) kind = plain~ _ (item_group~ deep scope _ _ (near c h m among r))
-          read_item~ (attachment hasScript) kind = attach_to~ hasScript m.scope m.start m.last c h among r
+          read_item~ (attachment has_script) kind = attach_to~ has_script m.scope m.start m.last c h among r
           read_item~ command kind = command_of~ (of_class class_command (source.shape c.token)) _ _ (near c h m among r)
           read_item~ environment kind = plain~ true (environment_item~ deep l _ _ _ (near c h m among r))
           read_item~ left_right kind = plain~ true (item_lr~ deep _ _ (near c h m among r))

@@ -51,7 +51,8 @@ between n rest begun shut =
     ∙ ap (λ (l : List ℕ). l ++ take (n + 1) behind) (ap (take 1) (in_front_lem 0x7B rest begun))
     ∙ ap (λ (l : List ℕ). 0x7B ∷ l) (closed n behind (ap (in_front (0x7D ∷ [])) there ∙ shut))
 
-in_braces_lem : (rest : List ℕ) → 0 < in_braces rest → take (1 + in_braces rest + 1) rest ≡ 0x7B ∷ (take (in_braces rest) (drop 1 rest) ++ (0x7D ∷ []))
+in_braces_lem : (rest : List ℕ) → 0 < in_braces rest
+    → take (1 + in_braces rest + 1) rest ≡ 0x7B ∷ (take (in_braces rest) (drop 1 rest) ++ (0x7D ∷ []))
 unfolding in_braces
 in_braces_lem rest some =
     let size = run is_name (drop 1 rest) in
@@ -96,7 +97,8 @@ module _ (left : List ℕ) where
         let word-long = ap length is ∙ length-take-le (name_size left) left (name-fits left) in
         omega (arith, word-long, length-append word (0x7B ∷ []))
 
-    of_word : opening both ≡ 0x5C ∷ (word ++ (0x7B ∷ [])) → closing both ≡ 0x7D ∷ [] → with_name kind ≡ both → Sourced (environment kind size name) All
+    of_word : opening both ≡ 0x5C ∷ (word ++ (0x7B ∷ [])) → closing both ≡ 0x7D ∷ [] → with_name kind ≡ both
+        → Sourced (environment kind size name) All
     of_word opens closes b-is =
         record {
           is = rw (b-is, opens, closes) whole;

@@ -16,7 +16,7 @@ use Rattle.rules.specs.Limits
 use Rattle.rules.specs.Outcome.{Out, went, refused}
 use Rattle.rules.specs.Position.{Pos}
 use Rattle.rules.specs.Reading.{parse}
-use Rattle.rules.specs.Run.{Answer, accepted, refused_at, after_reading, afterChecks, run}
+use Rattle.rules.specs.Run.{Answer, accepted, refused_at, after_reading, after_checks, run}
 use Rattle.rules.specs.Tables.{token_count}
 use Rattle.rules.specs.Tokeniser as tokeniser
 use Rattle.rules.specs.Tokeniser.{Tokenised, written, not_ascii, is_ascii, tokens_of, token_rows, judged, tokenise, fits}
@@ -109,7 +109,7 @@ module _ (t : Tables) (tree dropped : List ℕ) where
   reading (went p) known e = omega (arith, e)
   reading (refused number place) known e = let low = known.low in omega (arith, low, e)
 
-  checking : (o : Option Refusal) → other (checked o) → other (number_of (afterChecks o t tree dropped).answer)
+  checking : (o : Option Refusal) → other (checked o) → other (number_of (after_checks o t tree dropped).answer)
   checking none free = reading (parse (flat (length tree)) (source_of t) empty) (known-refusals (length tree) (source_of t))
   checking (some refusal) free = free
 

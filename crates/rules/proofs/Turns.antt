@@ -72,7 +72,8 @@ module _ {B : Builder} {source : Source} (K : Handed B source) (sound : Sound so
   eat_while-more test (suc n) (suc m) p more h =
       cond_same (next B source test p) (λ e. bind-same _ _ (eats test p h e) (λ q h. eat_while-more test n m q (omega arith) h)) (λ _. refl)
 
-  eat_body_of_ifs-more : (n m nested : ℕ) (p : At B) → n ≤ m → Free K sound n p → eat_body_of_ifs B source n nested p ≡ eat_body_of_ifs B source m nested p
+  eat_body_of_ifs-more : (n m nested : ℕ) (p : At B) → n ≤ m → Free K sound n p
+      → eat_body_of_ifs B source n nested p ≡ eat_body_of_ifs B source m nested p
   unfolding eat_body_of_ifs
   eat_body_of_ifs-more zero zero nested p more h = refl
   eat_body_of_ifs-more zero (suc m) nested p more h = rw (no_next (eqb Token.EndIf) p h, no_next is_if p h, no_next (λ kind. true) p h)

@@ -80,7 +80,8 @@ shape_row shapes i =
 -- "or a next state over the state count"
 unfoldable pub state_right : List ℕ → ℕ → ℕ → Bool
 state_right states count i =
-    leb (cell Limits.state_width states i 0) count && (leb (cell Limits.state_width states i 1) count && leb (cell Limits.state_width states i 2) count)
+    leb (cell Limits.state_width states i 0) count && (leb (cell Limits.state_width states i 1) count
+    && leb (cell Limits.state_width states i 2) count)
 
 -- "states counted on after shapes"
 unfoldable pub shape_or_state_right : Tables → ℕ → Bool

@@ -30,7 +30,8 @@ pub record Stretch : Type 0 where
 abbrev pub leaves : List (List ℕ) → List Stretch
 leaves [] = []
 leaves (row ∷ rows) =
-    cond (eqb (get_or row 0 0) tag_leaf) (record { start = get_or row 2 0; size = get_or row 3 0; token = get_or row 4 0 } ∷ leaves rows) (leaves rows)
+    cond (eqb (get_or row 0 0) tag_leaf) (record { start = get_or row 2 0; size = get_or row 3 0; token = get_or row 4 0 } ∷ leaves rows)
+    (leaves rows)
 
 -- the text of each leaf
 abbrev pub texts_of : List ℕ → List Stretch → List (List ℕ)

@@ -206,23 +206,23 @@ module _ (B : Builder) (source : Source) where
 
     -- an attachment, around what stands from a mark on if there is one:  a_b   Attach[Arg[Text a] _ b]
     unfoldable pub attachment_at : Bool → Option B.Mark → Rule B
-    attachment_at hasScript at p =
+    attachment_at has_script at p =
         steps
         (start_around B source SyntaxKind.ItemAttachComponent at
         ∷ eat B source
-        ∷ script hasScript
+        ∷ script has_script
         ∷ finish B SyntaxKind.ItemAttachComponent (B.frame p.built)
         ∷ [])
         p
 
     -- `attach_component`: without a last mark `'` is a plain leaf, and `_b` is Attach[_ b]
     unfoldable pub attach_to : Bool → Option B.Mark → Rule B
-    attach_to hasScript (some m) p = attachment_at hasScript (some m) p
+    attach_to has_script (some m) p = attachment_at has_script (some m) p
     attach_to true none p = attachment_at true none p
     attach_to false none p = eat B source p
 
     unfoldable pub attach_component : Bool → Rule B
-    attach_component hasScript p = attach_to hasScript p.list.last p
+    attach_component has_script p = attach_to has_script p.list.last p
 
     -- ---- `content`: any item
 
@@ -233,7 +233,7 @@ module _ (B : Builder) (source : Source) where
     read_item single word p = cond single (single_char B source p) (text B source p)
     read_item single comma p = text B source p
     read_item single (group scope) p = item_group scope p
-    read_item single (attachment hasScript) p = attach_component hasScript p
+    read_item single (attachment has_script) p = attach_component has_script p
     read_item single command p = command_of (shape_here class_command p) p
     read_item single environment p = environment_item p
     read_item single left_right p = item_lr p

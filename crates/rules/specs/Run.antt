@@ -35,9 +35,9 @@ after_reading tree dropped (refused number place) =
     record { answer = refused_at number place; tree = replicate (length tree) 0; dropped = replicate (length dropped) 0 }
 
 -- "1 to 4 are checked in that order before reading, and write nothing."
-abbrev pub afterChecks : Option Refusal → Tables → List ℕ → List ℕ → Ran
-afterChecks (some refusal) t tree dropped = record { answer = refused_at refusal.0 refusal.1; tree = tree; dropped = dropped }
-afterChecks none t tree dropped = after_reading tree dropped (parse (flat (length tree)) (source_of t) empty)
+abbrev pub after_checks : Option Refusal → Tables → List ℕ → List ℕ → Ran
+after_checks (some refusal) t tree dropped = record { answer = refused_at refusal.0 refusal.1; tree = tree; dropped = dropped }
+after_checks none t tree dropped = after_reading tree dropped (parse (flat (length tree)) (source_of t) empty)
 
 unfoldable pub run : Tables → List ℕ → List ℕ → Ran
-run t tree dropped = afterChecks (checks t (length dropped)) t tree dropped
+run t tree dropped = after_checks (checks t (length dropped)) t tree dropped

@@ -84,7 +84,7 @@ module _ {sees : Tables → Type 0} {rule : RuleOf} {rest : Tables → List Rule
         → length y.tree ≡ length x.tree → length y.dropped ≡ length x.dropped → Turned sees rule rest gain 0 p m a y
     then_ends k turned e tree notes = record { turn = λ t seen ready. closing ready ((turned.turn t seen ready).went e) (k t) tree notes }
 
--- ---- what the needs behind a call read
+-- ---- what the goals behind a call read
 
 module _ {sees : Tables → Type 0} {rule : RuleOf} {rest : Tables → List Rule} {gain lift : ℕ} {p : Parser} {m : Buffers} {r : Step} {x : Buffers}
     (turned : Turned sees rule rest gain lift p m r x) where

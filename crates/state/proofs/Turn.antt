@@ -1,4 +1,4 @@
--- How a call ended, for the walk of a routine: said once at the call, and read by every need behind it. Assumes nothing.
+-- How a call ended, for the walk of a routine: said once at the call, and read by every goal behind it. Assumes nothing.
 use mathlib.Core.Path.{◌≡◌, refl, ap, ◌∙◌}
 use native.Mathlib.Omega.{arith}
 use Rattle.rules.specs.Limits.{nodes}

@@ -143,4 +143,9 @@ forms =
 
 -- 'Numbers of refusal': 1 to 4 are those of the tables, 9 is that of a sheet
 abbrev pub refusals : List ℕ
-refusals = 1 ∷ 2 ∷ 3 ∷ 4 ∷ Outcome.greedy_environment ∷ Outcome.mark_before_node ∷ Outcome.too_many_open ∷ Outcome.no_room ∷ 9 ∷ Tokeniser.not_ascii ∷ []
+refusals =
+    1 ∷ 2 ∷ 3 ∷ 4
+    ∷ Outcome.greedy_environment ∷ Outcome.mark_before_node ∷ Outcome.too_many_open ∷ Outcome.no_room
+    ∷ 9
+    ∷ Tokeniser.not_ascii
+    ∷ []

@@ -65,7 +65,7 @@ use Rattle.parser.proofs.+reading.Goals as goal
 use Rattle.parser.proofs.+reading.Goals.{arg-After-begin_argument-opened, arg-After-end_argument, arg-After-piece-taken, arg-Start, arguments-After-char_len-size, arguments-After-choose-choice, arguments-At-loop-word, arguments-In-Kind, arguments-In-Whole, arguments-In_default-matched, arguments-Start, attach_component-After-eat-eaten, attach_component-After-finish_node, attach_component-After-script-scripted, attach_component-After-start_around-opened, attach_component-Start, command-After-of_class-shape, command-After-with_marks-startless, command-Else-is_greedy, command-Else-name_only, command-Else-shape-eq-INFIX_GREEDY, command-Start, command-Then-is_greedy, content-After-item_of-item, content-Start, environment-After-end_clause-shut, environment-After-finish_node, environment-After-inside-listed, environment-After-of_class-shape, environment-After-start_node-opened, environment-After-with_arguments-named, environment-In-Went, environment-Start, greedy_command-After-eat-eaten, greedy_command-After-finish_node, greedy_command-After-finish_node-ended, greedy_command-After-inside-listed, greedy_command-After-start_around-opened, greedy_command-After-start_node-inner, greedy_command-In-Went-eaten, greedy_command-Start, item_group-After-eat-eaten, item_group-After-eat_if-shut, item_group-After-finish_node, item_group-After-inside-listed, item_group-After-start_node-opened, item_group-Start, item_lr-After-clause_lr-delimited, item_lr-After-finish_node, item_lr-After-inside-listed, item_lr-After-right_clause-shut, item_lr-After-start_node-opened, item_lr-Start, items-At-loop-extent, items-In-loop-extent, items-Start, match_arguments-After-arguments-read, match_arguments-After-holding_none-free, match_arguments-After-with_marks-cleared, match_arguments-Else-is_greedy, match_arguments-Else-name_only, match_arguments-Start, match_arguments-Then-name_only, script-After-trivia-passed, script-Else-not-has_script, script-In-Went, script-Start, script-Then-word_next, script-Then-word_next-2, with_arguments-After-eat-eaten, with_arguments-After-extract_holding_trivia, with_arguments-After-finish_node-ended, with_arguments-After-match_arguments-taken, with_arguments-After-start_node-opened, with_arguments-Start, attach_component-then-not-has_script+else-is_nothing, attach_component-else-not-has_script}
 
 -- ---- Arg
--- `arg`: the walk beside its rule, a turn for each call, and each need by the nearest turn.
+-- `arg`: the walk beside its rule, a turn for each call, and each goal by the nearest turn.
 
 abbrev arg_tables : {t : ℕ} → goal.arg-Start t → Tables
 arg_tables b = given b.args.text b.args.tokens b.args.shapes b.args.states
@@ -134,7 +134,7 @@ pub arg-returns : goal.arg-returns
 arg-returns t c = done (arg_ended (goal.at.arg-returns t c).After-end_argument)
 
 -- ---- Arguments
--- The needs of `arguments`: the outer loop's invariant is the walk so far (ArgumentLoop.antt). The inner loop does not know where the outer one
+-- `arguments`: the outer loop's invariant is the walk so far (ArgumentLoop.antt). The inner loop does not know where the outer one
 
 abbrev arguments_tables : {t : ℕ} → goal.arguments-Start t → Tables
 arguments_tables b = given b.args.text b.args.tokens b.args.shapes b.args.states
@@ -281,7 +281,7 @@ arguments-returns-in-Ends t c =
     arguments-end _ _ _ _ c.arguments.invariant (arguments_chosen_here (goal.at.arguments-returns-in-Ends t c).After-choose-choice c.in-Ends.is)
 
 -- ---- AttachComponent
--- `attach_component`: an apostrophe without a last mark is a leaf; else the walk beside its rule, a turn for each call, and each need by the nearest.
+-- `attach_component`: an apostrophe without a last mark is a leaf; else the walk beside its rule, a turn for each call, and each goal by the nearest.
 
 -- ---- what the rule comes to, by the script and the last mark
 
@@ -732,7 +732,7 @@ content-returns-in-Skipped t c = content_known (goal.at.content-returns-in-Skipp
     (ran-runs refl c.requires.0 c.skipped_body.ensures)
 
 -- ---- Environment
--- `environment`: the walk beside its rule, a turn for each call, and each need by the nearest turn.
+-- `environment`: the walk beside its rule, a turn for each call, and each goal by the nearest turn.
 
 abbrev environment_tables : {t : ℕ} → goal.environment-Start t → Tables
 environment_tables b = given b.args.text b.args.tokens b.args.shapes b.args.states
@@ -1028,7 +1028,7 @@ pub greedy_command-returns : goal.greedy_command-returns
 greedy_command-returns t c = done (greedy_command_ended (goal.at.greedy_command-returns t c).After-finish_node)
 
 -- ---- Inside
--- The needs of `inside`: what the loop reads is what the extent reads, by Extents.antt.
+-- `inside`: what the loop reads is what the extent reads, by Extents.antt.
 
 pub inside-items-listed-requires : goal.inside-items-listed-requires
 inside-items-listed-requires t c = let measure = c.decreases in
@@ -1047,7 +1047,7 @@ inside-returns t c = rw c.closed.ensures
     c.opened-begun.ensures c.items-listed.ensures)
 
 -- ---- ItemGroup
--- `item_group`: the walk beside its rule, a turn for each call, and each need by the nearest turn.
+-- `item_group`: the walk beside its rule, a turn for each call, and each goal by the nearest turn.
 
 abbrev item_group_tables : {t : ℕ} → goal.item_group-Start t → Tables
 item_group_tables b = given b.args.text b.args.tokens b.args.shapes b.args.states
@@ -1146,7 +1146,7 @@ pub item_group-returns : goal.item_group-returns
 item_group-returns t c = done (item_group_ended (goal.at.item_group-returns t c).After-finish_node)
 
 -- ---- ItemLr
--- `item_lr`: the walk beside its rule, a turn for each call, and each need by the nearest turn.
+-- `item_lr`: the walk beside its rule, a turn for each call, and each goal by the nearest turn.
 
 abbrev item_lr_tables : {t : ℕ} → goal.item_lr-Start t → Tables
 item_lr_tables b = given b.args.text b.args.tokens b.args.shapes b.args.states
@@ -1245,7 +1245,7 @@ pub item_lr-returns : goal.item_lr-returns
 item_lr-returns t c = done (item_lr_ended (goal.at.item_lr-returns t c).After-finish_node)
 
 -- ---- Items
--- The needs of `items`: the loop's invariant is what ItemLoop.antt has for the extent, and each need a law of it.
+-- `items`: the loop's invariant is what ItemLoop.antt has for the extent, and each goal a law of it.
 
 abbrev items_tables : {t : ℕ} → goal.items-Start t → Tables
 items_tables b = given b.args.text b.args.tokens b.args.shapes b.args.states
@@ -1624,7 +1624,7 @@ script-returns t c = let other = sym c.word_next-2.ensures ∙ c.if-word_next-2.
     rw c.again-2.ensures (script_last (script_at_item (script_behind (goal.at.script-returns t c).In-Went) other) (runs c.inside.ensures))
 
 -- ---- WithArguments
--- `with_arguments`: the walk beside its rule, a turn for each call, and each need by the nearest turn.
+-- `with_arguments`: the walk beside its rule, a turn for each call, and each goal by the nearest turn.
 
 abbrev with_arguments_tables : {t : ℕ} → goal.with_arguments-Start t → Tables
 with_arguments_tables b = given b.args.text b.args.tokens b.args.shapes b.args.states
