@@ -134,7 +134,8 @@ pub arg-returns : goal.arg-returns
 arg-returns t c = done (arg_ended (goal.at.arg-returns t c).After-end_argument)
 
 -- ---- Arguments
--- `arguments`: the outer loop's invariant is the walk so far (ArgumentLoop.antt). The inner loop does not know where the outer one
+-- `arguments`: the outer loop's invariant is the walk so far (ArgumentLoop.antt). The inner loop does not know where the outer one began, so its
+-- invariant speaks of every walk that led to where the inner one began.
 
 abbrev arguments_tables : {t : ℕ} → goal.arguments-Start t → Tables
 arguments_tables b = given b.args.text b.args.tokens b.args.shapes b.args.states
@@ -851,6 +852,7 @@ environment-returns t c = done (environment_ended (goal.at.environment-returns t
 
 -- ---- GreedyCommand
 -- `greedy_command`: two walks, each beside its rule. What the command takes, from its name on, is one step of the command's own rule and has a rule
+-- of its own. A turn for each call, and each goal by the nearest turn.
 
 -- a step that is walked itself was refused, and so is the rule that it is a step of
 greedy_command_stops_within : {t : Tables} {greedy_command_rule f : Rule} {rest more : List Rule} {gain lift gain2 lift2 scope scope2 any : ℕ}
