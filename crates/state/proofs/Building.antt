@@ -89,7 +89,7 @@ module _ (p : Parser) (t v notes : List ℕ) where
   pub built_told : {Q : Parser → Type 0} {r : Step} {x : Built} (rule : ℕ → Here → Out Here) (o : Out flat.Rows) → r ≡ building_of p x
       → o ≡ shown.out_of x v
       → rule (length t) (pos_of p before)
-          ≡ bind (flat.on_tree (pos_of p before).built o) (λ b. went (spec.with_built (flat.flat 0) (pos_of p before) b))
+      ≡ bind (flat.on_tree (pos_of p before).built o) (λ b. went (spec.with_built (flat.flat 0) (pos_of p before) b))
       → ((u : GreenNodeBuilder) → x ≡ built.Went u → Q (rebuilt p u)) → Told rule Q p before r after
   built_told {Q} {r} {x} rule o e is same f =
       rw e (record { is = same ∙ outcome o x is; gone = goes Q x f })

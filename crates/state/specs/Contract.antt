@@ -264,6 +264,6 @@ pub record Ignored (p : Parser) (before : List ℕ) (r : Parser) (after : List �
   pub state : r ≡ ignored p
   pub is : (s : Source) (n : ℕ) (tree : List ℕ)
       → ignore_holding_trivia (flat n) s (pos_of p (record { tree = tree; dropped = before }))
-          ≡ went (pos_of r (record { tree = tree; dropped = after }))
+      ≡ went (pos_of r (record { tree = tree; dropped = after }))
   pub rest : drop (r.dropped * dropped_width) after ≡ drop (r.dropped * dropped_width) before
   pub long : length after ≡ length before
