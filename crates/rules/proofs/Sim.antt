@@ -4,7 +4,7 @@
 use Prim.Native.Nat.{ℕ}
 use mathlib.Core.Path.{◌≡◌}
 use mathlib.Core.List.{List, [], ◌∷◌, ◌++◌}
-use mathlib.Core.Option.{Option, none, some}
+use Rattle.std.specs.Prelude.{Option, None as none, Some as some}
 use Rattle.rules.specs.Builder.{Builder, Leaf}
 use Rattle.rules.specs.Outcome.{greedy_environment, too_many_open}
 use Rattle.rules.specs.Cursor.{Cursor}

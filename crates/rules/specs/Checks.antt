@@ -1,6 +1,6 @@
 -- What is checked before reading: refusals 1 to 4, each with its place.
 use Rattle.std.specs.Prelude.{ℕ, zero, suc, ◌+◌, ◌*◌, ◌-◌, ◌/◌, ◌%◌, Bool, not, cond, ◌&&◌, ◌||◌, List, [], ◌∷◌, eqb, leb, ltb, length}
-use Rattle.std.proofs.Math.Option.{Option, none, some}
+use Rattle.std.specs.Prelude.{Option, None as none, Some as some}
 use Rattle.rules.specs.Characters.{is_utf8}
 use Rattle.rules.specs.Items.{class_command, class_environment, no_shape}
 use Rattle.rules.specs.Limits

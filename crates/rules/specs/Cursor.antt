@@ -1,6 +1,6 @@
 -- Where reading stands in the token rows: the lexer's `peek`, `eat` and `consume_utf8_bytes` (the lexer's lib.rs).
 use Rattle.std.specs.Prelude.{ℕ, ◌+◌, ◌*◌, ◌-◌, cond, List, leb, ltb}
-use Rattle.std.proofs.Math.Option.{Option, none, some}
+use Rattle.std.specs.Prelude.{Option, None as none, Some as some}
 use Rattle.rules.specs.Limits
 use Rattle.rules.specs.Tables.{token_count, kind_at, start_at, length_at, part}
 

@@ -1,6 +1,6 @@
 -- What is dropped in small formulas, by the run and by the demand's definition, as one table, and one theorem over it that antt computes.
 use Rattle.std.specs.Prelude.{ℕ, ◌*◌, ◌≡◌, refl, List, [], ◌∷◌, ◌++◌, map, length, replicate, take}
-use Rattle.std.proofs.Math.Option.{Option, none, some}
+use Rattle.std.specs.Prelude.{Option, None as none, Some as some}
 use Rattle.rules.specs.Checks.{Tables, source_of}
 use Rattle.rules.specs.Computed.{the_run}
 use Rattle.rules.specs.Exactly

@@ -3,7 +3,7 @@
 -- its node stay leaves), the opener of an \iffalse or \iftypst body that is read as one (what stands inside a skipped body opens and closes none),
 -- and that body's closing \fi if it has one."
 use Rattle.std.specs.Prelude.{ℕ, zero, suc, ◌+◌, ◌*◌, ◌-◌, ◌≡◌, Bool, true, not, cond, ◌&&◌, ◌||◌, List, [], ◌∷◌, ◌++◌, map, eqb, length, take}
-use Rattle.std.proofs.Math.Option.{Option, none, some}
+use Rattle.std.specs.Prelude.{Option, None as none, Some as some}
 use Rattle.rules.specs.Checks.{Tables, source_of}
 use Rattle.rules.specs.Flat.{four, dropped_row, reason_trivia, reason_opener, reason_closer}
 use Rattle.rules.specs.Items.{class_command, of_class}

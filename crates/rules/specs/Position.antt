@@ -1,7 +1,7 @@
 -- Where a run of the rules stands: what is read, which tokens are held, the list that is read, and what was built. And the steps that a rule is made
 -- of.
 use Rattle.std.specs.Prelude.{ℕ, Bool, false, List, [], ◌∷◌}
-use Rattle.std.proofs.Math.Option.{Option, none, some}
+use Rattle.std.specs.Prelude.{Option, None as none, Some as some}
 use Rattle.rules.specs.Builder.{Builder, Leaf}
 use Rattle.rules.specs.Cursor.{Cursor}
 use Rattle.rules.specs.Outcome.{Out, went, bind}

@@ -2,7 +2,7 @@
 -- the text, and a leaf's text.
 -- They have an answer for any numbers in the place of rows.
 use Rattle.std.specs.Prelude.{ℕ, zero, suc, ◌+◌, ◌-◌, ◌/◌, Bool, true, false, cond, ◌&&◌, ◌||◌, List, [], ◌∷◌, eqb, leb, ltb, length}
-use Rattle.std.proofs.Math.Option.{Option, none, some}
+use Rattle.std.specs.Prelude.{Option, None as none, Some as some}
 use Rattle.rules.specs.Builder as builder
 use Rattle.rules.specs.Flat.{tag_start, tag_leaf, tag_finish}
 use Rattle.rules.specs.Limits

@@ -1,7 +1,7 @@
 -- The routines of parser.rs that read items inside items: over any builder, for what is read. Each takes `inner`, which reads an item inside a node;
 -- `content_at` ties the knot. "These call each other in a cycle; the number of nodes that may yet be opened falls."
 use Rattle.std.specs.Prelude.{ℕ, zero, suc, Bool, true, false, cond, [], ◌∷◌, eqb}
-use Rattle.std.proofs.Math.Option.{Option, none, some}
+use Rattle.std.specs.Prelude.{Option, None as none, Some as some}
 use Rattle.rules.specs.Builder.{Builder}
 use Rattle.rules.specs.Cursor.{peek, at_start}
 use Rattle.rules.specs.Items.{Item, plain, error, word, comma, group, attachment, command, environment, left_right, skipped, item_of, group_kind, closer, class_command, class_environment, of_class, name_only, attachable, greedy_stops, Piece, character, within, brace, item, Choice, ends, holds, takes, choose}

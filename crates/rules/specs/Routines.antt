@@ -1,6 +1,6 @@
 -- The routines of parser.rs that read no item inside another: over any builder, for what is read.
 use Rattle.std.specs.Prelude.{ℕ, zero, suc, ◌+◌, ◌-◌, Bool, true, cond, [], ◌∷◌, eqb}
-use Rattle.std.proofs.Math.Option.{Option, none, some}
+use Rattle.std.specs.Prelude.{Option, None as none, Some as some}
 use Rattle.rules.specs.Builder.{Builder}
 use Rattle.rules.specs.Characters.{char_length}
 use Rattle.rules.specs.Cursor.{peek, rest_start, rest_length, peek_text, eaten, consumed, left}

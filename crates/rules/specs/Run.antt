@@ -1,6 +1,6 @@
 -- The whole run: the answer, and what both lent buffers hold afterwards.
 use Rattle.std.specs.Prelude.{ℕ, ◌/◌, List, ◌++◌, length, drop, replicate}
-use Rattle.std.proofs.Math.Option.{Option, none, some}
+use Rattle.std.specs.Prelude.{Option, None as none, Some as some}
 use Rattle.rules.specs.Checks.{Tables, Refusal, checks, source_of}
 use Rattle.rules.specs.Flat.{Built, Mark, flat, empty}
 use Rattle.rules.specs.Limits

@@ -1,6 +1,6 @@
 -- What the bytes of a sheet stand for, as the program `treelist` reads it.
 use Rattle.std.specs.Prelude.{ℕ, zero, suc, ◌+◌, ◌*◌, ◌/◌, ◌%◌, Bool, cond, ◌&&◌, List, [], ◌∷◌, ◌++◌, eqb, leb, length, get_or}
-use Rattle.std.proofs.Math.Option.{Option, none, some}
+use Rattle.std.specs.Prelude.{Option, None as none, Some as some}
 use Rattle.rules.specs.Checks.{Tables}
 use Rattle.rules.specs.Tables.{part}
 

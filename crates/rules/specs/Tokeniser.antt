@@ -1,6 +1,6 @@
 -- From formula text to token rows (02, #103): the tokens of a text, one behind the other, and what the lent rows hold afterwards.
 use Rattle.std.specs.Prelude.{ℕ, zero, suc, ◌+◌, ◌*◌, ◌≤◌, ◌<◌, ◌≡◌, Bool, cond, ◌&&◌, ◌||◌, List, [], ◌∷◌, ◌++◌, eqb, leb, ltb, length, get_or, take, drop}
-use Rattle.std.proofs.Math.Option.{Option, none, some}
+use Rattle.std.specs.Prelude.{Option, None as none, Some as some}
 use Rattle.rules.specs.Checks.{first_bad}
 use Rattle.rules.specs.Commands.{name_size, kind_of, in_braces, with_name, takes_name}
 use Rattle.rules.specs.Limits

@@ -1,6 +1,6 @@
 -- What the program `treelist` prints for a sheet.
 use Rattle.std.specs.Prelude.{ℕ, ◌*◌, ◌/◌, List, replicate}
-use Rattle.std.proofs.Math.Option.{Option, none, some}
+use Rattle.std.specs.Prelude.{Option, None as none, Some as some}
 use Rattle.rules.specs.Checks.{Tables}
 use Rattle.rules.specs.Limits
 use Rattle.rules.specs.Listing.{listing}
