@@ -1,4 +1,5 @@
-// Kinds, scopes and limits: the numbers of 01 as constants of the types that they belong to, the conversion of a token's kind, and the stop table.
+// Kinds, scopes, limits and refusals: the numbers of 01 as enums, or as constants where they come in a lent table; the conversion of a token's kind,
+// the stop table, and the tables that are lent.
 #![tactic(auto)]
 
 mod limits;
@@ -7,12 +8,14 @@ mod refusal;
 mod rows;
 mod shape;
 mod syntax_kind;
+mod tables;
 mod token;
 
 pub use limits::Limits;
 pub use parse_scope::ParseScope;
-pub use refusal::Refusal;
+pub use refusal::{Refusal, Refused};
 pub use rows::{Reason, Tag};
 pub use shape::{Class, Form};
 pub use syntax_kind::SyntaxKind;
+pub use tables::Tables;
 pub use token::Token;

@@ -5,24 +5,24 @@ ghost use Rattle.syntax.specs.ParseScope.{number_of, scope_at, scope_of};
 
 use crate::limits::Limits;
 
-#[derive(Clone, Copy)]
+#[derive(Clone, Copy, PartialEq, Eq)]
 pub enum ParseScope {
     // The root: nothing stops it.
-    Root,
+    Root = 0,
     // A formula in dollars, `$..$` or `$$..$$`.
-    DollarFormula,
+    DollarFormula = 1,
     // A formula in commands, `\(..\)` or `\[..\]`.
-    CmdFormula,
+    CmdFormula = 2,
     // An environment, `\begin{..}..\end{..}`.
-    Environment,
+    Environment = 3,
     // The body of `\left..\right`.
-    LR,
+    LR = 4,
     // A curly group, `{..}`.
-    CurlyItem,
+    CurlyItem = 5,
     // A bracket group, `[..]`.
-    BracketItem,
+    BracketItem = 6,
     // A parenthesis group, `(..)`.
-    ParenItem,
+    ParenItem = 7,
 }
 
 impl ParseScope {
@@ -48,16 +48,7 @@ impl ParseScope {
     pub fn number(self) -> usize
         ensures { result ≡ number_of self }
     {
-        match self {
-            Self::Root => 0,
-            Self::DollarFormula => 1,
-            Self::CmdFormula => 2,
-            Self::Environment => 3,
-            Self::LR => 4,
-            Self::CurlyItem => 5,
-            Self::BracketItem => 6,
-            Self::ParenItem => 7,
-        }
+        self as usize
     }
 
     // The scope of a number; a number that is none's is the root's.

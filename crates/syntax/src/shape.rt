@@ -1,4 +1,5 @@
-// What a shape row says by its numbers (mitex-spec's `CommandSpecItem`, `ArgShape` and `ArgPattern`).
+// What a shape row says by its numbers (mitex-spec's `CommandSpecItem`, `ArgShape` and `ArgPattern`). They are constants and no enums: they come in a
+// lent table, and what is asked of them (`of_class`, `start_match`, `value_right` ..) answers for each number, those that no row may have too.
 ghost use Rattle.std.specs.Prelude.{◌≡◌};
 ghost use Rattle.syntax.specs.Numbers.{classes, forms};
 

@@ -1,4 +1,5 @@
-// The kinds of tokens (token.rs), by 01's numbers.
+// The kinds of tokens (token.rs), by 01's numbers. They are constants and no enum: a kind comes as a number in a lent table, and every question over
+// kinds (`is_trivia`, `stop_by_scope`, `from_token`, `item_of` ..) answers for each number, those over 39 too.
 ghost use Rattle.std.specs.Prelude.{◌≡◌};
 ghost use Rattle.rules.specs.Kinds.{is_text_component, is_trivia};
 ghost use Rattle.syntax.specs.Numbers.{token_kinds};
@@ -139,16 +140,21 @@ impl Token {
     }
 
     // Blanks, breaks and comments.
+    #[tactic(auto, unfolding(rules::specs::Kinds::is_trivia))]
     pub fn is_trivia(kind: u32) -> bool
         ensures { result ≡ is_trivia kind }
     {
-        kind == Self::LINE_BREAK || kind == Self::WHITESPACE || kind == Self::LINE_COMMENT
+        matches!(
+            kind,
+            Self::LINE_BREAK | Self::WHITESPACE | Self::LINE_COMMENT
+        )
     }
 
     // What goes on a text: the question inside the Rust's `text`.
+    #[tactic(auto, unfolding(rules::specs::Kinds::is_text_component, rules::specs::Kinds::is_trivia))]
     pub fn is_text_component(kind: u32) -> bool
         ensures { result ≡ is_text_component kind }
     {
-        Self::is_trivia(kind) || kind == Self::WORD || kind == Self::COMMA
+        Self::is_trivia(kind) || matches!(kind, Self::WORD | Self::COMMA)
     }
 }
