@@ -1,4 +1,5 @@
 -- How arguments, matchers and answers of the code stand for the rules', case by case.
+use Rattle.std.specs.Prelude.{ℕ, Option, None as none, Some as some, cond, eqb}
 use Rattle.rules.specs.Matcher as rules
 use Rattle.arg_match.specs.declared.Argument.{Argument}
 use Rattle.arg_match.specs.declared.Argument.TheVariants as argument
@@ -22,3 +23,7 @@ abbrev pub matched_of : Matched → rules.Matched
 matched_of matched.NotAccepted = rules.not_accepted
 matched_of (matched.Whole next) = rules.whole (matcher_of next)
 matched_of (matched.Bare next) = rules.bare (matcher_of next)
+
+-- a next state, where 0 stands for not accepted
+abbrev pub accepted : ℕ → Option ℕ
+accepted state = cond (eqb state 0) none (some state)

@@ -3,16 +3,16 @@
 
 ghost use Rattle.std.specs.Prelude.{◌≡◌};
 ghost use Rattle.rules.specs.Matcher.{as_term, column, is_greedy, match_next, next_state, start_at_most, start_match};
-ghost use Rattle.arg_match.specs.Answers.{argument_of, matched_of, matcher_of};
+ghost use Rattle.arg_match.specs.Answers.{accepted, argument_of, matched_of, matcher_of};
 
 use syntax::{Form, Limits};
 
 // What comes next, as the matcher sees it: a term, or what `[` or `(` begins (t, b, p).
 #[derive(Clone, Copy)]
 pub enum Argument {
-    Term,
-    Bracket,
-    Paren,
+    Term = 0,
+    Bracket = 1,
+    Paren = 2,
 }
 
 // What is still accepted.
@@ -42,11 +42,7 @@ impl Argument {
     fn column(self) -> usize
         ensures { result ≡ column (argument_of self) }
     {
-        match self {
-            Self::Term => 0,
-            Self::Bracket => 1,
-            Self::Paren => 2,
-        }
+        self as usize
     }
 
     // Accepted as a term: a term is read whole, `[` or `(` counts as one and is eaten alone.
@@ -55,27 +51,23 @@ impl Argument {
     {
         match self {
             Self::Term => Matched::Whole(next),
-            Self::Bracket => Matched::Bare(next),
-            Self::Paren => Matched::Bare(next),
+            Self::Bracket | Self::Paren => Matched::Bare(next),
         }
     }
 }
 
-// The next state by the table, or 0 for not accepted.
-fn next_state(states: &[u32], state: u32, argument: Argument) -> u32
-    ensures { result ≡ next_state states.now state (argument_of argument) }
+// The next state by the table, if it accepts. State 0 accepts nothing, and a row's number 0 says that this argument isn't accepted.
+fn next_state(states: &[u32], state: u32, argument: Argument) -> Option<u32>
+    ensures { result ≡ accepted (next_state states.now state (argument_of argument)) }
 {
-    if state == 0 {
-        return 0;
-    }
-    let row = (state - 1) as usize;
-    let at = row * Limits::STATE_WIDTH + argument.column();
-    if at < states.len() { states[at] } else { 0 }
+    let row = state.checked_sub(1)? as usize;
+    let next = states.get(row * Limits::STATE_WIDTH + argument.column())?;
+    if *next == 0 { None } else { Some(*next) }
 }
 
 impl ArgMatcher {
     // A count of terms from 0. A maximum of 0 accepts nothing from the start.
-    fn start_at_most(max: u32) -> ArgMatcher
+    fn start_at_most(max: u32) -> Self
         ensures { matcher_of result ≡ start_at_most max }
     {
         if max == 0 {
@@ -87,15 +79,13 @@ impl ArgMatcher {
 
     // The matcher that a shape starts with.
     #[tactic(auto, unfolding(rules::specs::Matcher::start_match))]
-    pub fn start_match(form: u32, value: u32) -> ArgMatcher
+    pub fn start_match(form: u32, value: u32) -> Self
         ensures { matcher_of result ≡ start_match form value }
     {
         match form {
-            Form::FIXED => Self::start_at_most(value),
-            Form::RANGE => Self::start_at_most(value),
-            Form::GREEDY => Self::Greedy,
+            Form::FIXED | Form::RANGE => Self::start_at_most(value),
+            Form::GREEDY | Form::INFIX_GREEDY => Self::Greedy,
             Form::GLOB => Self::Glob { state: value },
-            Form::INFIX_GREEDY => Self::Greedy,
             _ => Self::None,
         }
     }
@@ -104,12 +94,7 @@ impl ArgMatcher {
     pub fn is_greedy(self) -> bool
         ensures { result ≡ is_greedy (matcher_of self) }
     {
-        match self {
-            Self::None => false,
-            Self::AtMostTerm { max: _, counter: _ } => false,
-            Self::Greedy => true,
-            Self::Glob { state: _ } => false,
-        }
+        matches!(self, Self::Greedy)
     }
 
     // Whether what comes next is accepted, as a whole item or as a bare token, and what is accepted behind it.
@@ -129,11 +114,9 @@ impl ArgMatcher {
             },
             Self::Greedy => argument.as_term(Self::Greedy),
             Self::Glob { state } => {
-                let next = next_state(states, state, argument);
-                if next == 0 {
-                    Matched::NotAccepted
-                } else {
-                    Matched::Whole(Self::Glob { state: next })
+                match next_state(states, state, argument) {
+                    Some(next) => Matched::Whole(Self::Glob { state: next }),
+                    None => Matched::NotAccepted,
                 }
             }
         }

@@ -5,7 +5,7 @@ use Prim.Native.Nat.{ℕ, zero, suc, ◌+◌, ◌-◌, ◌≤◌, ◌<◌}
 use mathlib.Core.Path.{◌≡◌, sym, ap, ◌∙◌}
 use mathlib.Core.List.{List, [], ◌∷◌}
 use mathlib.Core.Logic.{◌⊎◌, inl, inr, ⊎_elim}
-use mathlib.Core.Option.{none, some}
+use Rattle.std.specs.Prelude.{Option, None as none, Some as some}
 use native.Mathlib.Nat.{add-zero, sub-zero}
 use native.Mathlib.Omega.{arith}
 use lib.Dec.{leb}
@@ -19,9 +19,6 @@ use Rattle.rules.specs.Tables.{token_count, kind_at, start_at, length_at}
 use Rattle.rules.specs.Cursor.{Cursor, at_start, peek, rest_start, rest_length, peek_text, eaten, consumed, left}
 use Rattle.rules.proofs.Characters.{either, utf8_some, utf8_again}
 use Rattle.lexer.specs.Fine.{IsWord, Sound, Fine, Here}
-use Rattle.lexer.specs.Reading.{peeked_of}
-use Rattle.lexer.specs.declared.cursor.Peeked.{Peeked}
-use Rattle.lexer.specs.declared.cursor.Peeked.TheVariants.{Kind, End}
 
 pub le_or_lt : (a b : ℕ) → (a ≤ b) ⊎ (b < a)
 le_or_lt a b = either (leb a b) (λ t. inl (leb-true a b t)) (λ f. inr (leb-false a b f))
@@ -40,16 +37,16 @@ module _ (tokens : List ℕ) (c : Cursor) where
   unfolding peek
   peek-none end = rw (le-ltb c.token (token_count tokens) end)
 
-  module _ {p : Peeked} (told : peek tokens c ≡ peeked_of p) where
-    pub peeked : {kind : ℕ} → p ≡ Kind kind → Next tokens c kind
+  module _ {p : Option ℕ} (told : p ≡ peek tokens c) where
+    pub peeked : {kind : ℕ} → p ≡ some kind → Next tokens c kind
     peeked {kind} e =
-        ⊎_elim (λ end. let z : ◌≡◌ {A = ℕ} 0 1 = cc (peek-none end, ap peeked_of e) in absurd (omega arith))
-        (λ there. record { there = there; is = cc (peek-some there, ap peeked_of e) })
+        ⊎_elim (λ end. let z : ◌≡◌ {A = ℕ} 0 1 = cc (peek-none end, e) in absurd (omega arith))
+        (λ there. record { there = there; is = cc (peek-some there, e) })
         (le_or_lt (token_count tokens) c.token)
 
-    pub ended : p ≡ End → token_count tokens ≤ c.token
+    pub ended : p ≡ none → token_count tokens ≤ c.token
     ended e =
-        ⊎_elim (λ end. end) (λ there. let z : ◌≡◌ {A = ℕ} 0 1 = cc (peek-some there, ap peeked_of e) in absurd (omega arith))
+        ⊎_elim (λ end. end) (λ there. let z : ◌≡◌ {A = ℕ} 0 1 = cc (peek-some there, e) in absurd (omega arith))
         (le_or_lt (token_count tokens) c.token)
 
 -- ---- what `consumed` comes to

@@ -2,15 +2,12 @@
 -- alone leaves something open: its contract fixes the bytes that come back, and not where they lie. Assumes nothing.
 use Prim.Native.Nat.{ℕ}
 use mathlib.Core.List.{List}
-use mathlib.Core.Option.{Option, none, some}
 use mathlib.Core.Path.{◌≡◌, refl, sym, ◌∙◌}
 use denote.Ref.{Bor}
 use Rattle.rules.specs.Cursor.{Cursor}
-use Rattle.syntax.proofs.Only.{Only, equal, fixed, stands}
-use Rattle.lexer.specs.Reading.{cursor_of, peeked_of}
+use Rattle.syntax.proofs.Only.{Only, equal, stands}
+use Rattle.lexer.specs.Reading.{cursor_of}
 use Rattle.lexer.specs.declared.cursor.Lexer.{Lexer}
-use Rattle.lexer.specs.declared.cursor.Peeked.{Peeked}
-use Rattle.lexer.specs.declared.cursor.Peeked.TheVariants.{Kind, End}
 use Rattle.lexer.proofs.characters.char_len.Reads as char-len
 use Rattle.lexer.proofs.characters.is_utf8.Reads as is-utf8
 use Rattle.lexer.proofs.cursor.cell.Reads as cell
@@ -22,8 +19,8 @@ use Rattle.lexer.proofs.cursor.Lexer.peek_text.Reads as peek-text
 use Rattle.lexer.proofs.cursor.Lexer.rest_length.Reads as rest_length_lem
 use Rattle.lexer.proofs.cursor.Lexer.rest_start.Reads as rest-start
 
-pub equations : Only char-len.Post × Only is-utf8.Post × Only cell.Post × Only rest-start.Post × Only rest_length_lem.Post
-equations = (equal, equal, equal, equal, equal)
+pub equations : Only char-len.Post × Only is-utf8.Post × Only cell.Post × Only peek.Post × Only rest-start.Post × Only rest_length_lem.Post
+equations = (equal, equal, equal, equal, equal, equal)
 
 abbrev lexer : Cursor → Lexer
 lexer c = record { token = c.token; taken = c.taken }
@@ -31,17 +28,6 @@ lexer c = record { token = c.token; taken = c.taken }
 -- a cursor of the rules leads back to the code's
 pub cursors : Only new.Post × Only consume-utf8-bytes.Post × Only eat.Post
 cursors = (stands cursor_of lexer (λ l. refl), stands cursor_of lexer (λ l. refl), stands cursor_of lexer (λ l. refl))
-
-abbrev peeked : Option ℕ → Peeked
-peeked (some kind) = Kind kind
-peeked none = End
-
-from_peeked : (p : Peeked) → peeked (peeked_of p) ≡ p
-from_peeked (Kind kind) = refl
-from_peeked End = refl
-
-pub only_peek : Only peek.Post
-only_peek = record { same = λ κs a x y e p q. fixed peeked_of peeked from_peeked x y (sym p ∙ q) }
 
 -- of a part of the caller's text: the bytes
 module _ {L : Type 0} {A E : L → Type 0} where

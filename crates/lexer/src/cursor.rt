@@ -3,7 +3,7 @@ ghost use Rattle.std.specs.Prelude.{◌≡◌, ◌<◌, ◌^◌};
 ghost use Rattle.rules.specs.Cursor.{peek, peek_text, rest_start, rest_length, at_start, eaten, consumed};
 ghost use Rattle.rules.specs.Limits.{token_width};
 ghost use Rattle.rules.specs.Tables.{cell, token_count};
-ghost use Rattle.lexer.specs.Reading.{cursor_of, peeked_of};
+ghost use Rattle.lexer.specs.Reading.{cursor_of};
 ghost use Rattle.lexer.specs.Fine.{Fine, Here};
 
 use syntax::Limits;
@@ -13,13 +13,6 @@ use syntax::Limits;
 pub struct Lexer {
     pub token: usize,
     pub taken: usize,
-}
-
-// The kind of the next token, if there is one.
-#[derive(Clone, Copy)]
-pub enum Peeked {
-    Kind(u32),
-    End,
 }
 
 // The columns of a token row.
@@ -53,16 +46,15 @@ impl Lexer {
         Self { token: 0, taken: 0 }
     }
 
-    // The next token's kind.
+    // The next token's kind, if there is one.
     #[tactic(auto, unfolding(rules::specs::Cursor::peek))]
-    pub fn peek(self, tokens: &[u32]) -> Peeked
-        ensures { peek tokens.now (cursor_of self) ≡ peeked_of result }
+    pub fn peek(self, tokens: &[u32]) -> Option<u32>
+        ensures { result ≡ peek tokens.now (cursor_of self) }
     {
-        let token = self.token;
-        if token < tokens.len() / Limits::TOKEN_WIDTH {
-            return Peeked::Kind(cell(tokens, token, Column::KIND));
+        if self.token < tokens.len() / Limits::TOKEN_WIDTH {
+            return Some(cell(tokens, self.token, Column::KIND));
         }
-        Peeked::End
+        None
     }
 
     // Where what is left of the next token starts in the text.
@@ -84,6 +76,7 @@ impl Lexer {
     }
 
     // The text of what is left of it, a part of the caller's text. Where bytes of a Word are taken, it starts in the Word's middle.
+    #[tactic(auto, unfolding(rules::specs::Cursor::peek_text))]
     pub fn peek_text<'a>(self, text: &'a [u8], tokens: &[u32]) -> &'a [u8]
         requires { (self.token < token_count tokens.now) × Fine text.now tokens.now (cursor_of self) }
         ensures { result.now ≡ peek_text text.now tokens.now (cursor_of self) }
@@ -103,8 +96,8 @@ impl Lexer {
             return self.eat();
         }
         Self {
-            token: self.token,
             taken: self.taken + count,
+            ..self
         }
     }
 

@@ -5,4 +5,4 @@ mod characters;
 mod cursor;
 
 pub use characters::{char_len, is_utf8};
-pub use cursor::{Column, Lexer, Peeked, cell};
+pub use cursor::{Column, Lexer, cell};

@@ -1,10 +1,10 @@
--- From `at` on the bytes are as good as from their start.
-use Rattle.std.proofs.Common.{◌≡◌, ◌-◌, ◌≤◌, length, drop}
+-- What is left is as good as all bytes.
+use Rattle.std.proofs.Common.{◌≡◌, length}
 use Rattle.rules.specs.Characters.{is_utf8}
 use Rattle.lexer.proofs.characters.is_utf8.Given as goal
 
-abbrev pub invariant-loop-at : goal.invariant-loop-at
-invariant-loop-at l = record { inside : l.at ≤ length l.bytes; same : is_utf8 l.bytes ≡ is_utf8 (drop l.at l.bytes) }
+abbrev pub invariant-loop-first : goal.invariant-loop-first
+invariant-loop-first l = is_utf8 l.bytes ≡ is_utf8 l.rest
 
-abbrev pub decreases-loop-at : goal.decreases-loop-at
-decreases-loop-at l = length l.bytes - l.at
+abbrev pub decreases-loop-first : goal.decreases-loop-first
+decreases-loop-first l = length l.rest

