@@ -1,4 +1,5 @@
 -- What a caller lives on of an operation that went: read off the rule that its contract cites. Assumes nothing.
+use Rattle.std.specs.Prelude.{Ok}
 use mathlib.Core.Path.{◌≡◌, refl, sym, ap}
 use mathlib.Core.List.{List}
 use Prim.Native.Nat.{ℕ, ◌+◌, ◌*◌, ◌≤◌, ◌<◌}
@@ -12,12 +13,10 @@ use Rattle.rules.specs.Limits.{tree_width, nodes}
 use Rattle.rules.specs.Outcome.{Out, went}
 use Rattle.rules.specs.Flat as flat
 use Rattle.rules.proofs.Flat.{leaf-went, start-went, finish-went, wrap-went}
-use Rattle.builder.specs.Stands.{rows_of, mark_of}
+use Rattle.builder.specs.Stands.{Built, rows_of, mark_of}
 use Rattle.builder.specs.Contract.{Fits, Within, Inside, Did}
 use Rattle.builder.specs.declared.Checkpoint.{Checkpoint}
 use Rattle.builder.specs.declared.GreenNodeBuilder.{GreenNodeBuilder}
-use Rattle.builder.specs.declared.Built.{Built}
-use Rattle.builder.specs.declared.Built.TheVariants.{Went}
 
 -- a leaf was written
 pub record Leafs (b : GreenNodeBuilder) (t : List ℕ) (u : GreenNodeBuilder) (v : List ℕ) : Type 0 where
@@ -50,7 +49,7 @@ pub record Closes (b : GreenNodeBuilder) (t : List ℕ) (f : flat.Frame) (u : Gr
   pub node : u.node ≡ f.node
 
 -- what an answer that went stands for
-went_is : {want : ℕ → Out flat.Rows} {t v : List ℕ} {r : Built} {u : GreenNodeBuilder} → Did want t r v → r ≡ Went u
+went_is : {want : ℕ → Out flat.Rows} {t v : List ℕ} {r : Built} {u : GreenNodeBuilder} → Did want t r v → r ≡ Ok u
     → (want (length t) ≡ went (rows_of u v)) × (drop (u.rows * tree_width) v ≡ drop (u.rows * tree_width) t)
 went_is k e = (rw e at k.is, rw e at k.rest)
 
@@ -87,7 +86,7 @@ start-row m b t within inside le = by_test (eqb m.children b.first) refl
     by_test true e = let same = eqb-true m.children b.first e in (omega arith, omega arith)
     by_test false e = (inside.children, inside.row)
 
-module _ {b u : GreenNodeBuilder} {t v : List ℕ} {r : Built} (fits : Fits b t) (e : r ≡ Went u) (long : length v ≡ length t) (place : ℕ) where
+module _ {b u : GreenNodeBuilder} {t v : List ℕ} {r : Built} (fits : Fits b t) (e : r ≡ Ok u) (long : length v ≡ length t) (place : ℕ) where
   pub leafs : (l : Leaf) → Did (λ n. flat.leaf n place l (rows_of b t)) t r v → Leafs b t u v
   unfolding flat.leafed
   leafs l k =

@@ -1,5 +1,6 @@
 -- What each operation leaves meets its contract: the rule goes as the code found its tests, and the rows are as they were written. The laws are over
 -- plain values: each function's proof cites one of them where it returns. Assumes nothing.
+use Rattle.std.specs.Prelude.{Ok}
 use mathlib.Core.Path.{◌≡◌, refl, sym, ap, ◌∙◌}
 use mathlib.Core.List.{List, [], ◌++◌}
 use Prim.Native.Nat.{ℕ, ◌+◌, ◌*◌, ◌-◌, ◌/◌, ◌≤◌, ◌<◌}
@@ -19,7 +20,6 @@ use Rattle.builder.specs.Stands.{rows_of, mark_of}
 use Rattle.builder.specs.Contract.{Allowed, Did, StartRow, in_front, start_rows, written}
 use Rattle.builder.specs.declared.Checkpoint.{Checkpoint}
 use Rattle.builder.specs.declared.GreenNodeBuilder.{GreenNodeBuilder}
-use Rattle.builder.specs.declared.Built.TheVariants.{Went}
 use Rattle.builder.proofs.Numbers.{one_more, the_rest, Wide, all_in, in_front_lem, lent, moved_down}
 
 -- ---- a row behind the others
@@ -48,7 +48,7 @@ module _ (b : GreenNodeBuilder) (t v : List ℕ) (free : b.rows < length t / tre
         node = b.node;
       }
 
-  pub leafed : (place : ℕ) (l : Leaf) → Behind (flat.row_of l) → Did (λ n. flat.leaf n place l (rows_of b t)) t (Went with_leaf) v
+  pub leafed : (place : ℕ) (l : Leaf) → Behind (flat.row_of l) → Did (λ n. flat.leaf n place l (rows_of b t)) t (Ok with_leaf) v
   unfolding flat.leafed
   leafed place l e =
       let row = flat.row_of l in
@@ -69,7 +69,7 @@ module _ (b : GreenNodeBuilder) (t v : List ℕ) (free : b.rows < length t / tre
       (place kind : ℕ)
       → b.depth < nodes
       → Behind (flat.with_token place (flat.start_row kind))
-      → Did (λ n. flat.start n place kind (rows_of b t)) t (Went with_start) v
+      → Did (λ n. flat.start n place kind (rows_of b t)) t (Ok with_start) v
   unfolding flat.started
   started place kind few e =
       let row = flat.with_token place (flat.start_row kind) in
@@ -89,7 +89,7 @@ module _ (b : GreenNodeBuilder) (t v : List ℕ) (free : b.rows < length t / tre
   pub finished :
       (place kind : ℕ) (f : flat.Frame)
       → Behind (flat.with_token place (flat.finish_row kind))
-      → Did (λ n. flat.finish n place kind f (rows_of b t)) t (Went (with_finish f)) v
+      → Did (λ n. flat.finish n place kind f (rows_of b t)) t (Ok (with_finish f)) v
   unfolding flat.finished
   finished place kind f e =
       let row = flat.with_token place (flat.finish_row kind) in
@@ -185,7 +185,7 @@ module _ (b : GreenNodeBuilder) (t part v : List ℕ) (place kind : ℕ) (m : Ch
       → StartRow b [] m a
       → part ≡ in_front tree_width starts (lent begin end t)
       → v ≡ written tree_width last finish-row (put_mid begin (end - begin) t part)
-      → Did (λ n. flat.wrap n place kind (mark_of m) (rows_of b t)) t (Went with_wrap) v
+      → Did (λ n. flat.wrap n place kind (mark_of m) (rows_of b t)) t (Ok with_wrap) v
   encloses allowed at e finish-written =
       let free = allowed.free in
       let moved = moved_down tree_width a b.rows starts t part (starts_wide place kind ClauseArgument) at.high (omega arith) e in

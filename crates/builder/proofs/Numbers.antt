@@ -2,13 +2,13 @@
 -- A row that is written over another and one that is put in between are one definition with its laws; several, one behind the other, are an
 -- induction on these. Assumes nothing.
 use mathlib.Core.Path.{◌≡◌, refl, sym, ap, ap₂, ◌∙◌}
-use mathlib.Core.List.{List, [], ◌∷◌, ◌++◌, append_assoc, append-nil, flatten}
-use Prim.Native.Nat.{ℕ, suc, ◌+◌, ◌*◌, ◌-◌, ◌≤◌, ◌<◌}
+use mathlib.Core.List.{List, [], ◌∷◌, ◌++◌, append_assoc, flatten}
+use Prim.Native.Nat.{ℕ, suc, ◌+◌, ◌*◌, ◌-◌, ◌≤◌}
 use native.Mathlib.Nat.{suc-mul, zero-mul, mul-zero, add-mul, add-zero, zero-add, mul-le-mul_right}
 use native.Mathlib.Numerals.{add-one}
 use native.Mathlib.Omega.{arith}
-use lib.ListN.{length, take, drop, set, get_or, length-append, length-drop, take-append-drop, get_or-append}
-use lib.Seq.{sets, sets-eq, take_at, drop_at, drop-drop, take-take, take-length, take-suc, take-add, drop-cons, set_at, get_or-take, length-take-le, slice_empty}
+use lib.ListN.{length, take, drop, length-append, length-drop, take-append-drop}
+use lib.Seq.{sets, sets-eq, take_at, drop_at, drop-drop, take-take, take-add, length-take-le}
 use borrow.Rule.Slice.PartMut.{mid_of, put_mid, mid_len, drop_put, same_len_mid}
 use Rattle.builder.specs.Contract.{written, in_front}
 
@@ -105,52 +105,6 @@ at_once w over r (row ∷ rows) t wide fit =
     ∙ ap₂ (λ (x y : List ℕ). x ++ (flatten rows ++ y)) front back
     ∙ append_assoc (take (r * w) t) row (flatten rows ++ after)
     ∙ ap (λ (x : List ℕ). take (r * w) t ++ x) (sym (append_assoc row (flatten rows) after))
-
--- ---- all but the last `by` numbers move down by so many, from the end on
-
--- what stands there when all from i on have moved
-abbrev pub shifted : List ℕ → ℕ → ℕ → List ℕ
-shifted l by i = take i l ++ drop (i - by) (take (length l - by) l)
-
-pub shift_none : (l : List ℕ) (by : ℕ) → l ≡ shifted l by (length l)
-shift_none l by = rw (slice_empty (length l - by) l, take-length l, append-nil l)
-
--- m's number n goes to place j, the last that is still l's
-shift_one :
-    (l m : List ℕ) (j n : ℕ)
-    → j < length l
-    → n < length m
-    → n ≤ j
-    → get_or m n 0 ≡ get_or l n 0
-    → set (take (suc j) l ++ drop (suc n) m) j (get_or (take (suc j) l ++ drop (suc n) m) n 0) ≡ take j l ++ drop n m
-shift_one l m j n hj hn le e =
-    let long : length (take (suc j) l) ≡ suc j = length-take-le (suc j) l hj in
-    let read : get_or (take (suc j) l ++ drop (suc n) m) n 0 ≡ get_or m n 0 =
-    get_or-append (take (suc j) l) (drop (suc n) m) 0 n (omega arith) ∙ get_or-take (suc j) l n 0 (omega arith) ∙ sym e in
-    let front : length (take j l) ≡ j = length-take-le j l (omega arith) in
-    rw (read, take-suc l j 0 hj, append_assoc (take j l) (get_or l j 0 ∷ []) (drop (suc n) m))
-    (set_at (take j l) (get_or l j 0) (drop (suc n) m) (get_or m n 0) j front ∙ rw (drop-cons m n 0 hn))
-
-pub shift_more :
-    (l p : List ℕ) (by i : ℕ)
-    → by < i
-    → i ≤ length l
-    → p ≡ shifted l by i
-    → set p (i - 1) (get_or p (i - 1 - by) 0) ≡ shifted l by (i - 1)
-shift_more l p by i lo hi e =
-    let m = take (length l - by) l in
-    let long : length m ≡ length l - by = length-take-le (length l - by) l (omega arith) in
-    let up : i ≡ suc (i - 1) = omega arith in
-    let over : i - by ≡ suc (i - 1 - by) = omega arith in
-    let before : p ≡ take (suc (i - 1)) l ++ drop (suc (i - 1 - by)) m = e ∙ ap₂ (λ (a b : ℕ). take a l ++ drop b m) up over in
-    let same : get_or m (i - 1 - by) 0 ≡ get_or l (i - 1 - by) 0 = get_or-take (length l - by) l (i - 1 - by) 0 (omega arith) in
-    rw before (shift_one l m (i - 1) (i - 1 - by) (omega arith) (omega arith) (omega arith) same)
-
-pub shift_all : (l p : List ℕ) (by i : ℕ) → i ≤ by → by ≤ i → p ≡ shifted l by i → p ≡ take by l ++ take (length l - by) l
-shift_all l p by i hi lo e =
-    let same : i ≡ by = omega arith in
-    let none : by - by ≡ 0 = omega arith in
-    rw none at (rw same at e)
 
 -- ---- rows move down, and as many are written in front of them
 

@@ -2,6 +2,7 @@
 -- back to its numbers and to the buffer's rows; behind the rows the buffer is as it was, and a refused one changes nothing. Assumes nothing.
 use Prim.Native.Nat.{ℕ, ◌*◌}
 use mathlib.Core.List.{List, [], ◌++◌}
+use Rattle.std.specs.Prelude.{Ok, Err}
 use mathlib.Core.Path.{◌≡◌, refl, sym, ap, ap₂, ◌∙◌}
 use native.Mathlib.Omega.{arith}
 use lib.ListN.{take, drop, take-append-drop}
@@ -10,9 +11,8 @@ use Rattle.rules.specs.Limits.{tree_width}
 use Rattle.rules.specs.Outcome.{Out}
 use Rattle.syntax.proofs.Only.{Only, equal, stands}
 use Rattle.builder.specs.Contract.{Did, Leaves}
-use Rattle.builder.specs.Stands.{rows_of, out_of}
-use Rattle.builder.specs.declared.Built.{Built}
-use Rattle.builder.specs.declared.Built.TheVariants.{Went, Refused}
+use Rattle.syntax.specs.declared.refusal.Refused.{Refused}
+use Rattle.builder.specs.Stands.{Built, rows_of, out_of}
 use Rattle.builder.specs.declared.GreenNodeBuilder.{GreenNodeBuilder}
 use Rattle.builder.proofs.dropped.drop_token.Reads as drop_token
 use Rattle.builder.proofs.GreenNodeBuilder.checkpoint.Reads as checkpoint
@@ -48,17 +48,23 @@ pub record OnlyLent {L : Type 0} {A R E : L → Type 0} (left : (κs : L) → E 
 
 -- two answers that stand for the same, with what they leave of the same buffer
 same-built : (r s : Built) (t v w : List ℕ) → out_of r v ≡ out_of s w → Leaves r t v → Leaves s t w → (r ≡ s) × (v ≡ w)
-same-built (Went b) (Went c) t v w e left-v left-w =
+same-built (Ok b) (Ok c) t v w e left-v left-w =
     let rows : rows_of b v ≡ rows_of c w = cc in
     let one : b ≡ c = ap numbers rows in
     let front : take (b.rows * tree_width) v ≡ take (c.rows * tree_width) w = ap (λ (x : Rows). x.tree) rows in
     let behind : drop (b.rows * tree_width) v ≡ drop (c.rows * tree_width) w = left-v ∙ rw one (sym left-w) in
     let whole = take-append-drop (b.rows * tree_width) v in
     let whole' = take-append-drop (c.rows * tree_width) w in
-    (ap Went one, sym whole ∙ ap₂ (λ (x y : List ℕ). x ++ y) front behind ∙ whole')
-same-built (Went b) (Refused number place) t v w e left-v left-w = let z : ◌≡◌ {A = ℕ} 0 1 = cc in absurd (omega arith)
-same-built (Refused number place) (Went c) t v w e left-v left-w = let z : ◌≡◌ {A = ℕ} 0 1 = cc in absurd (omega arith)
-same-built (Refused number place) (Refused n p) t v w e left-v left-w = (cc, left-v ∙ sym left-w)
+    (ap Ok one, sym whole ∙ ap₂ (λ (x y : List ℕ). x ++ y) front behind ∙ whole')
+same-built (Ok b) (Err x) t v w e left-v left-w = let z : ◌≡◌ {A = ℕ} 0 1 = cc in absurd (omega arith)
+same-built (Err x) (Ok c) t v w e left-v left-w = let z : ◌≡◌ {A = ℕ} 0 1 = cc in absurd (omega arith)
+same-built (Err x) (Err y) t v w e left-v left-w =
+    let number : x.number ≡ y.number = cc in
+    let place : x.place ≡ y.place = cc in
+    (ap Err (ap₂ at number place), left-v ∙ sym left-w)
+  where
+    at : ℕ → ℕ → Refused
+    at number place = record { number = number; place = place }
 
 did : {want : ℕ → Out Rows} {t v w : List ℕ} {r s : Built} → Did want t r v → Did want t s w → (r ≡ s) × (v ≡ w)
 did {r = r} {s = s} k l = same-built r s _ _ _ (sym k.is ∙ l.is) k.rest l.rest

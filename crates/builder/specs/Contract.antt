@@ -1,5 +1,5 @@
 -- What the contracts of the builder's functions say.
-use Rattle.std.specs.Prelude.{ℕ, ◌+◌, ◌*◌, ◌-◌, ◌/◌, ◌≤◌, ◌<◌, ◌≡◌, length, take, drop}
+use Rattle.std.specs.Prelude.{ℕ, ◌+◌, ◌*◌, ◌-◌, ◌/◌, ◌≤◌, ◌<◌, ◌≡◌, Ok, Err, length, take, drop}
 use mathlib.Core.List.{List, [], ◌∷◌, ◌++◌, flatten}
 use Rattle.std.specs.Borrow.{MutBor}
 use denote.Triple.Both.{Both}
@@ -8,9 +8,7 @@ use Rattle.rules.specs.Flat.{Rows, with_token, start_row, start_at_row}
 use Rattle.rules.specs.Outcome.{Out}
 use Rattle.builder.specs.declared.Checkpoint.{Checkpoint}
 use Rattle.builder.specs.declared.GreenNodeBuilder.{GreenNodeBuilder}
-use Rattle.builder.specs.declared.Built.{Built}
-use Rattle.builder.specs.declared.Built.TheVariants.{Went, Refused}
-use Rattle.builder.specs.Stands.{rows_of, mark_of, out_of}
+use Rattle.builder.specs.Stands.{Built, rows_of, mark_of, out_of}
 
 -- rows of so many numbers: one is written over what stands there
 abbrev pub written : (width row : ℕ) (numbers t : List ℕ) → List ℕ
@@ -43,8 +41,8 @@ pub record Inside (m : Checkpoint) (b : GreenNodeBuilder) : Type 0 where
 
 -- what a call leaves in the buffer: behind the new rows all is as it was, and a refused call changes nothing
 abbrev pub Leaves : Built → List ℕ → List ℕ → Type 0
-Leaves (Went b) t v = drop (b.rows * Limits.tree_width) v ≡ drop (b.rows * Limits.tree_width) t
-Leaves (Refused number place) t v = v ≡ t
+Leaves (Ok b) t v = drop (b.rows * Limits.tree_width) v ≡ drop (b.rows * Limits.tree_width) t
+Leaves (Err refused) t v = v ≡ t
 
 -- the contract of an operation: what the rule wants of a buffer of that length is what the answer and the buffer at exit stand for
 pub record Did (want : ℕ → Out Rows) (t : List ℕ) (r : Built) (v : List ℕ) : Type 0 where

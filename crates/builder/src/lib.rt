@@ -1,20 +1,20 @@
 // Rows of a tree into a lent buffer, in the manner of rowan's GreenNodeBuilder: its numbers go in and come back by value, beside the buffer.
-// Each operation is handed the place, the first token not wholly read. A row has it as its fifth number, but that a leaf has its own token. A refused
-// operation changes nothing.
+// Each operation is handed the place, the first token not wholly read. A row has it as its fifth number, but that a leaf has its own token.
+// An operation comes to the new numbers, or is refused and changes nothing.
 #![tactic(auto)]
 
-ghost use Rattle.std.specs.Prelude.{◌≡◌, ◌^◌, ◌<◌, []};
+ghost use Rattle.std.specs.Prelude.{◌≡◌, ◌^◌, ◌<◌, [], Ok};
 ghost use Rattle.rules.specs.Flat as flat;
 ghost use Rattle.builder.specs.Stands.{rows_of, mark_of, frame_of};
 ghost use Rattle.builder.specs.Contract.{Fits, Within, Inside, Goes, StartRow, Allowed};
-ghost use Rattle.builder.specs.declared.Built.TheVariants.{Went};
+ghost use Rattle.syntax.specs.SyntaxKind.{number_of};
 
 mod dropped;
 mod rows;
 
 pub use dropped::drop_token;
 use rows::{insert_starts, put};
-use syntax::{Limits, Refusal, SyntaxKind, Tag};
+use syntax::{Limits, Refusal, Refused, SyntaxKind, Tag};
 
 // A mark: how many finished children there were, and the row that was next.
 #[derive(Clone, Copy)]
@@ -40,13 +40,6 @@ pub struct GreenNodeBuilder {
     pub children: usize,
     pub first: usize,
     pub node: usize,
-}
-
-// What an operation comes to: the new numbers, or the number and the place of a refusal.
-#[derive(Clone, Copy)]
-pub enum Built {
-    Went(GreenNodeBuilder),
-    Refused(u32, usize),
 }
 
 impl GreenNodeBuilder {
@@ -88,19 +81,19 @@ impl GreenNodeBuilder {
         tree: &mut [u32],
         place: u32,
         token: u32,
-        kind: u32,
+        kind: SyntaxKind,
         start: u32,
         size: u32,
-    ) -> Built
+    ) -> Result<GreenNodeBuilder, Refused>
         requires { Fits self tree.old }
-        ensures { Goes (λ n. flat.leaf n place (record { token = token; kind = kind; start = start; size = size })) self tree result }
+        ensures { Goes (λ n. flat.leaf n place (record { token = token; kind = number_of kind; start = start; size = size })) self tree result }
     {
         let rows = self.rows;
         if tree.len() / Limits::TREE_WIDTH <= rows {
-            return Built::Refused(Refusal::NO_ROOM, place as usize);
+            return Err(Refusal::NoRoom.at(place as usize));
         }
-        put(tree, rows, Tag::LEAF, kind, start, size, token);
-        Built::Went(GreenNodeBuilder {
+        put(tree, rows, Tag::Leaf, kind, start, size, token);
+        Ok(GreenNodeBuilder {
             rows: rows + 1,
             leaves: self.leaves + 1,
             depth: self.depth,
@@ -111,19 +104,24 @@ impl GreenNodeBuilder {
     }
 
     // A node that begins here: what comes next is its first child.
-    pub fn start_node(self, tree: &mut [u32], place: u32, kind: u32) -> Built
+    pub fn start_node(
+        self,
+        tree: &mut [u32],
+        place: u32,
+        kind: SyntaxKind,
+    ) -> Result<GreenNodeBuilder, Refused>
         requires { Fits self tree.old }
-        ensures { Goes (λ n. flat.start n place kind) self tree result }
+        ensures { Goes (λ n. flat.start n place (number_of kind)) self tree result }
     {
         if Limits::NODES <= self.depth {
-            return Built::Refused(Refusal::TOO_MANY_OPEN, place as usize);
+            return Err(Refusal::TooManyOpen.at(place as usize));
         }
         let rows = self.rows;
         if tree.len() / Limits::TREE_WIDTH <= rows {
-            return Built::Refused(Refusal::NO_ROOM, place as usize);
+            return Err(Refusal::NoRoom.at(place as usize));
         }
-        put(tree, rows, Tag::START, kind, 0, 0, place);
-        Built::Went(GreenNodeBuilder {
+        put(tree, rows, Tag::Start, kind, 0, 0, place);
+        Ok(GreenNodeBuilder {
             rows: rows + 1,
             leaves: self.leaves,
             depth: self.depth + 1,
@@ -134,16 +132,22 @@ impl GreenNodeBuilder {
     }
 
     // The innermost open node ends here and is one finished child of its parent, whose frame is handed back.
-    pub fn finish_node(self, tree: &mut [u32], place: u32, kind: u32, parent: Frame) -> Built
+    pub fn finish_node(
+        self,
+        tree: &mut [u32],
+        place: u32,
+        kind: SyntaxKind,
+        parent: Frame,
+    ) -> Result<GreenNodeBuilder, Refused>
         requires { Fits self tree.old × Within self }
-        ensures { Goes (λ n. flat.finish n place kind (frame_of parent)) self tree result }
+        ensures { Goes (λ n. flat.finish n place (number_of kind) (frame_of parent)) self tree result }
     {
         let rows = self.rows;
         if tree.len() / Limits::TREE_WIDTH <= rows {
-            return Built::Refused(Refusal::NO_ROOM, place as usize);
+            return Err(Refusal::NoRoom.at(place as usize));
         }
-        put(tree, rows, Tag::FINISH, kind, 0, 0, place);
-        Built::Went(GreenNodeBuilder {
+        put(tree, rows, Tag::Finish, kind, 0, 0, place);
+        Ok(GreenNodeBuilder {
             rows: rows + 1,
             leaves: self.leaves,
             depth: self.depth - 1,
@@ -166,17 +170,23 @@ impl GreenNodeBuilder {
     }
 
     // A wrap that nothing refuses. The rows from its mark on are lent on and move down once, by two rows, since both nodes begin there.
-    fn enclose(self, tree: &mut [u32], place: u32, kind: u32, at: Checkpoint) -> GreenNodeBuilder
+    fn enclose(
+        self,
+        tree: &mut [u32],
+        place: u32,
+        kind: SyntaxKind,
+        at: Checkpoint,
+    ) -> GreenNodeBuilder
         requires { Within self × Inside at self × Allowed self tree.old at }
-        ensures { Goes (λ n. flat.wrap n place kind (mark_of at)) self tree (Went result) }
+        ensures { Goes (λ n. flat.wrap n place (number_of kind) (mark_of at)) self tree (Ok result) }
     {
         let start = self.start_row(at);
         let last = self.rows + 2;
         let from = start * Limits::TREE_WIDTH;
         let to = last * Limits::TREE_WIDTH;
-        let argument = SyntaxKind::CLAUSE_ARGUMENT;
+        let argument = SyntaxKind::ClauseArgument;
         insert_starts(&mut tree[from..to], kind, argument, place);
-        put(tree, last, Tag::FINISH, argument, 0, 0, place);
+        put(tree, last, Tag::Finish, argument, 0, 0, place);
         GreenNodeBuilder {
             rows: last + 1,
             leaves: self.leaves,
@@ -189,29 +199,35 @@ impl GreenNodeBuilder {
 
     // A wrap: a node begins at an earlier mark and stays open, and an argument inside it is closed around what stood there.
     //   a_b   the `_` wraps the text: Attach[Arg[Text a] ..
-    pub fn wrap(self, tree: &mut [u32], place: u32, kind: u32, at: Checkpoint) -> Built
+    pub fn wrap(
+        self,
+        tree: &mut [u32],
+        place: u32,
+        kind: SyntaxKind,
+        at: Checkpoint,
+    ) -> Result<GreenNodeBuilder, Refused>
         requires { Fits self tree.old × Within self × Inside at self }
-        ensures { Goes (λ n. flat.wrap n place kind (mark_of at)) self tree result }
+        ensures { Goes (λ n. flat.wrap n place (number_of kind) (mark_of at)) self tree result }
     {
         if at.children < self.first {
-            return Built::Refused(Refusal::MARK_BEFORE_NODE, place as usize);
+            return Err(Refusal::MarkBeforeNode.at(place as usize));
         }
         if Limits::NODES <= self.depth {
-            return Built::Refused(Refusal::TOO_MANY_OPEN, place as usize);
+            return Err(Refusal::TooManyOpen.at(place as usize));
         }
         let rows = self.rows;
         let last = rows + 2;
         let room = tree.len() / Limits::TREE_WIDTH;
         if room <= rows {
-            return Built::Refused(Refusal::NO_ROOM, place as usize);
+            return Err(Refusal::NoRoom.at(place as usize));
         }
         // The argument's own opening is judged by itself.
         if Limits::NODES <= self.depth + 1 {
-            return Built::Refused(Refusal::TOO_MANY_OPEN, place as usize);
+            return Err(Refusal::TooManyOpen.at(place as usize));
         }
         if room <= last {
-            return Built::Refused(Refusal::NO_ROOM, place as usize);
+            return Err(Refusal::NoRoom.at(place as usize));
         }
-        Built::Went(self.enclose(tree, place, kind, at))
+        Ok(self.enclose(tree, place, kind, at))
     }
 }

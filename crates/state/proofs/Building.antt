@@ -1,12 +1,14 @@
 -- The builder's operations on the parser's state: the rule's outcome is the builder's with all else as it was, and what the builder tells of its
 -- numbers is what a routine lives on. Assumes nothing.
+use Rattle.std.specs.Prelude.{Ok, Err}
+use Rattle.syntax.specs.declared.refusal.Refused.{Refused}
 use mathlib.Core.Path.{◌≡◌, refl, ◌∙◌}
 use mathlib.Core.List.{List}
 use Prim.Native.Nat.{ℕ, ◌*◌, ◌%◌, ◌^◌, ◌≤◌}
 use native.Mathlib.Omega.{arith}
 use lib.ListN.{length, drop}
 use Rattle.rules.specs.Limits.{tokens, tree_width}
-use Rattle.rules.specs.Outcome.{Out, went, bind}
+use Rattle.rules.specs.Outcome.{Out, went, refused, bind}
 use Rattle.rules.specs.Flat as flat
 use Rattle.rules.specs.Position as spec
 use Rattle.rules.specs.Checks.{Tables}
@@ -16,15 +18,12 @@ use Rattle.lexer.specs.Reading.{cursor_of}
 use Rattle.builder.specs.Stands as shown
 use Rattle.builder.specs.Contract as told
 use Rattle.builder.specs.declared.GreenNodeBuilder.{GreenNodeBuilder}
-use Rattle.builder.specs.declared.Built.{Built}
-use Rattle.builder.specs.declared.Built.TheVariants as built
 use Rattle.builder.proofs.Facts as facts
-use Rattle.state.specs.Stands.{Buffers, Here, pos_of, out_of}
-use Rattle.state.specs.Change.{rebuilt, building_of}
+use Rattle.state.specs.Stands.{Buffers, Here, Step, pos_of, out_of}
+use Rattle.state.specs.Change.{rebuilt}
 use Rattle.state.specs.Contract.{MarkOk, Steady, Passed, Leafed, Begun, Ended, Gone, Told}
 use Rattle.state.specs.declared.KeptMark.{KeptMark}
 use Rattle.state.specs.declared.Parser.{Parser}
-use Rattle.state.specs.declared.Step.{Step}
 use Rattle.state.proofs.Walk.{passing}
 
 -- ---- a token in 32 bits
@@ -40,7 +39,7 @@ all_bits : {token number : ℕ} → token ≤ tokens → number ≡ token % 2 ^ 
 all_bits few e = omega arith
 
 -- so what the builder did with them it did with the token
-pub for_token : (want : ℕ → ℕ → Out flat.Rows) {t v : List ℕ} {x : Built} {token number : ℕ} → token ≤ tokens → number ≡ token % 2 ^ 32
+pub for_token : (want : ℕ → ℕ → Out flat.Rows) {t v : List ℕ} {x : shown.Built} {token number : ℕ} → token ≤ tokens → number ≡ token % 2 ^ 32
     → told.Did (want number) t x v → told.Did (want token) t x v
 for_token want few e did = rw (all_bits few e) at did
 
@@ -74,25 +73,25 @@ module _ (p : Parser) (t v notes : List ℕ) where
   abbrev after : Buffers
   after = record { tree = v; dropped = notes }
 
-  -- the rule's outcome at p, from the builder's
-  outcome : (o : Out flat.Rows) (x : Built) → o ≡ shown.out_of x v
-      → bind (flat.on_tree (pos_of p before).built o) (λ b. went (spec.with_built (flat.flat 0) (pos_of p before) b)) ≡ out_of (building_of p x) after
-  outcome o (built.Went u) e = rw e
-  outcome o (built.Refused number place) e = rw e
-
-  -- what the answer leaves, from what the builder leaves
-  goes : (Q : Parser → Type 0) (x : Built) → ((u : GreenNodeBuilder) → x ≡ built.Went u → Q (rebuilt p u)) → Gone Q (building_of p x)
-  goes Q (built.Went u) f = f u refl
-  goes Q (built.Refused number place) f = tt
-
-  -- a routine that ends in `building`
-  pub built_told : {Q : Parser → Type 0} {r : Step} {x : Built} (rule : ℕ → Here → Out Here) (o : Out flat.Rows) → r ≡ building_of p x
-      → o ≡ shown.out_of x v
-      → rule (length t) (pos_of p before)
+  -- a rule that goes by the builder's operation, with all else as it is
+  abbrev Builds : (ℕ → Here → Out Here) → Out flat.Rows → Type 0
+  Builds rule o =
+      rule (length t) (pos_of p before)
       ≡ bind (flat.on_tree (pos_of p before).built o) (λ b. went (spec.with_built (flat.flat 0) (pos_of p before) b))
-      → ((u : GreenNodeBuilder) → x ≡ built.Went u → Q (rebuilt p u)) → Told rule Q p before r after
-  built_told {Q} {r} {x} rule o e is same f =
-      rw e (record { is = same ∙ outcome o x is; gone = goes Q x f })
+
+  -- the builder went on, and so does the routine
+  pub built_told : {Q : Parser → Type 0} {r : Step} {x : shown.Built} {u : GreenNodeBuilder} (rule : ℕ → Here → Out Here) (o : Out flat.Rows)
+      → r ≡ Ok (rebuilt p u) → x ≡ Ok u → o ≡ shown.out_of x v → Builds rule o → Q (rebuilt p u) → Told rule Q p before r after
+  built_told {u = u} rule o e went_on is same q =
+      let is' : o ≡ went (shown.rows_of u v) = rw went_on at is in
+      rw e (record { is = same ∙ rw is'; gone = q })
+
+  -- it was refused, and so is the routine
+  pub built_refused : {Q : Parser → Type 0} {x : shown.Built} {e : Refused} (rule : ℕ → Here → Out Here) (o : Out flat.Rows)
+      → x ≡ Err e → o ≡ shown.out_of x v → Builds rule o → Told rule Q p before (Err e) after
+  built_refused {e = e} rule o stopped is same =
+      let is' : o ≡ refused e.number e.place = rw stopped at is in
+      record { is = same ∙ rw is'; gone = tt }
 
   pub on_the_way : {tables : Tables} (u : GreenNodeBuilder) → length v ≡ length t → drop (u.rows * tree_width) v ≡ drop (u.rows * tree_width) t
       → p.builder.rows ≤ u.rows → u.leaves ≡ p.builder.leaves

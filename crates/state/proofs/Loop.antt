@@ -1,5 +1,6 @@
 -- A loop that eats a token in each turn: where it stands is a walk with turns enough for what is left to read, so that where a token
 -- is next a turn is left. Assumes nothing.
+use Rattle.std.specs.Prelude.{Ok}
 use mathlib.Core.Path.{◌≡◌, sym, ◌∙◌}
 use mathlib.Core.List.{[], ◌∷◌}
 use Prim.Native.Nat.{ℕ, zero, suc, ◌+◌, ◌≤◌, ◌<◌}
@@ -10,11 +11,9 @@ use Rattle.rules.specs.Checks.{Tables, source_of}
 use Rattle.rules.specs.Routines.{eat}
 use Rattle.rules.specs.Tables.{token_count}
 use Rattle.lexer.proofs.Laws.{left-some}
-use Rattle.state.specs.Stands.{Buffers, pos_of}
+use Rattle.state.specs.Stands.{Buffers, Step, pos_of}
 use Rattle.state.specs.Contract.{Ready, Left, left_of}
 use Rattle.state.specs.declared.Parser.{Parser}
-use Rattle.state.specs.declared.Step.{Step}
-use Rattle.state.specs.declared.Step.TheVariants.{Went}
 use Rattle.state.proofs.Walk.{Rule, last_step, two_steps, Walk, Call, begins, turns, passes, forgets, leaves}
 
 -- the step that eats
@@ -60,7 +59,7 @@ module _ {t : Tables} {rule : Rule} (more next : ℕ → Rule) {p : Parser} {m :
 
 -- the token was eaten
 module _ {t : Tables} {rule : Rule} {next : ℕ → Rule} {p : Parser} {m : Buffers} {q : Parser} {v : Buffers} {r : Step} {x : Buffers} {z : Parser}
-    (turn : OneTurn t rule next p m q v) (ate : Call t (eats t) 0 (λ u. Left t 1 q v u x) q v r x) (went_on : r ≡ Went z) where
+    (turn : OneTurn t rule next p m q v) (ate : Call t (eats t) 0 (λ u. Left t 1 q v u x) q v r x) (went_on : r ≡ Ok z) where
   -- less is left of what is to be read
   pub less_left : left_of t z + 1 ≤ left_of t q
   less_left = (leaves turn.walk ate went_on).passed.read

@@ -1,4 +1,6 @@
 -- A routine outside the cycle: where its code stands is a walk for all tables that agree with those that it sees. Assumes nothing.
+use Rattle.std.specs.Prelude.{Ok, Err}
+use Rattle.syntax.specs.declared.refusal.Refused.{Refused}
 use mathlib.Core.Path.{◌≡◌}
 use mathlib.Core.List.{List, [], ◌∷◌, ◌++◌}
 use Prim.Native.Nat.{ℕ, ◌+◌, ◌<◌}
@@ -7,14 +9,12 @@ use Rattle.rules.specs.Flat.{flat}
 use Rattle.rules.specs.Checks.{Tables, source_of}
 use Rattle.rules.specs.Outcome.{Out}
 use Rattle.rules.specs.Position as position
-use Rattle.state.specs.Stands.{Buffers, Here, pos_of}
+use Rattle.state.specs.Stands.{Buffers, Here, Step, pos_of}
 use Rattle.builder.specs.Contract.{Fits, Within}
 use Rattle.state.specs.Contract.{Ready, Begun, Ended, Opens, Begins, Ran, RuleOf, Known, Somehow, buffers}
 use Rattle.state.specs.declared.Parser.{Parser}
-use Rattle.state.specs.declared.Step.{Step}
-use Rattle.state.specs.declared.Step.TheVariants.{Went}
 use Rattle.state.proofs.Turn.{Turn, calls, opening, closing, done}
-use Rattle.state.proofs.Walk.{Rule, Call, Stopped, line, begins, ran, ran-by, somehow_then}
+use Rattle.state.proofs.Walk.{HandsOn, handed, Rule, Call, line, begins, ran, ran-by, somehow_then}
 
 -- a node that p begins and ends around these steps
 abbrev pub node_around : ℕ → Parser → List Rule → List Rule
@@ -29,10 +29,10 @@ ran-seeing f k = record { told = λ t seen ready. k.told t (f t seen) ready }
 
 -- where a node begins, no token is passed
 pub begins-there : {t : Tables} {rule : ℕ → Here → Out Here} {p q : Parser} {m : Buffers} {r : Step} {v : Buffers} → Ready t p m → Opens rule p m r v
-    → r ≡ Went q → q.lexer ≡ p.lexer
+    → r ≡ Ok q → q.lexer ≡ p.lexer
 begins-there {t} {p = p} {q} {m} {v = v} ready k e = let b : Begun t p m q v = rw e at (k.told t ready.steady).gone in b.lexer
 
-pub begun_there : {t : Tables} {rule : RuleOf} {p q : Parser} {m : Buffers} {r : Step} {v : Buffers} → Ready t p m → Begins rule p m r v → r ≡ Went q
+pub begun_there : {t : Tables} {rule : RuleOf} {p q : Parser} {m : Buffers} {r : Step} {v : Buffers} → Ready t p m → Begins rule p m r v → r ≡ Ok q
     → q.lexer ≡ p.lexer
 begun_there {t} {p = p} {q} {m} {v = v} ready k e = let b : Begun t p m q v = rw e at (k.told t ready).gone in b.lexer
 
@@ -42,7 +42,7 @@ known-somehow {m = m} k = record { t = k.t; notes = m.dropped; seen = k.seen; re
 
 -- a token that was next is next in the node that begins
 pub still_there : {sees : Tables → Type 0} {rule : ℕ → Here → Out Here} {p q : Parser} {r : Step} {tree after : List ℕ} {n : ℕ} → Somehow sees p tree
-    → ((notes : List ℕ) → Opens rule p (buffers tree notes) r (buffers after notes)) → r ≡ Went q → p.lexer.token < n
+    → ((notes : List ℕ) → Opens rule p (buffers tree notes) r (buffers after notes)) → r ≡ Ok q → p.lexer.token < n
     → q.lexer.token < n
 still_there s k e next = rw (begins-there s.ready (k s.notes) e) next
 
@@ -74,13 +74,13 @@ module _ {sees : Tables → Type 0} {rule : RuleOf} {rest : Tables → List Rule
   module _ {gain : ℕ} {r : Step} {x : Buffers} {z : Parser} {a : Step} {y : Buffers} where
     -- the next call is of a routine outside the cycle too
     pub then_ran : {f : RuleOf} {lift more : ℕ} → Ran sees more f z x a y
-        → Turned sees rule (λ t. (λ n d. f (source_of t) n) ∷ rest t) gain lift p m r x → r ≡ Went z
+        → Turned sees rule (λ t. (λ n d. f (source_of t) n) ∷ rest t) gain lift p m r x → r ≡ Ok z
         → length y.tree ≡ length x.tree → length y.dropped ≡ length x.dropped → Turned sees rule rest (gain + more) lift p m a y
     then_ran k turned e tree notes = record { turn = λ t seen ready. calls ((turned.turn t seen ready).went e) (ran seen k) tree notes }
 
     -- the next call ends the node
     pub then_ends : {f : Tables → Rule} → ((t : Tables) → Call t (f t) 1 (λ q. Ended t p.builder.first p.builder.node z x q y) z x a y)
-        → Turned sees rule (λ t. f t ∷ rest t) gain 1 p m r x → r ≡ Went z
+        → Turned sees rule (λ t. f t ∷ rest t) gain 1 p m r x → r ≡ Ok z
         → length y.tree ≡ length x.tree → length y.dropped ≡ length x.dropped → Turned sees rule rest gain 0 p m a y
     then_ends k turned e tree notes = record { turn = λ t seen ready. closing ready ((turned.turn t seen ready).went e) (k t) tree notes }
 
@@ -89,14 +89,14 @@ module _ {sees : Tables → Type 0} {rule : RuleOf} {rest : Tables → List Rule
 module _ {sees : Tables → Type 0} {rule : RuleOf} {rest : Tables → List Rule} {gain lift : ℕ} {p : Parser} {m : Buffers} {r : Step} {x : Buffers}
     (turned : Turned sees rule rest gain lift p m r x) where
   -- the call was refused, and so is the routine
-  pub refuses : {any : ℕ} → Stopped r → Ran sees any rule p m r x
-  refuses st = ran-by (λ t seen ready. (turned.turn t seen ready).refused st)
+  pub refuses : {any : ℕ} {e : Refused} {s : Step} → r ≡ Err e → HandsOn s e → Ran sees any rule p m s x
+  refuses st hands = rw (handed hands) (ran-by (λ t seen ready. (turned.turn t seen ready).refused st))
 
   -- it went, and the state is ready for the next
-  pub ready_behind : {z : Parser} (k : Known sees p m) → r ≡ Went z → Ready k.t z x
+  pub ready_behind : {z : Parser} (k : Known sees p m) → r ≡ Ok z → Ready k.t z x
   ready_behind k e = ((turned.turn k.t k.seen k.ready).went e).ready
 
-  pub open_behind : {z : Parser} → Known sees p m → r ≡ Went z → Fits z.builder x.tree × Within z.builder
+  pub open_behind : {z : Parser} → Known sees p m → r ≡ Ok z → Fits z.builder x.tree × Within z.builder
   open_behind k e = let ready = ready_behind k e in (ready.steady.fits, ready.within)
 
   pub long-behind : Known sees p m → length x.tree ≡ length m.tree
@@ -113,7 +113,7 @@ known_alone s = record { t = s.t; seen = s.seen; ready = s.ready }
 
 pub alone_behind : {sees : Tables → Type 0} {rule : RuleOf} {rest : Tables → List Rule} {gain lift : ℕ} {p : Parser} {tree after : List ℕ} {r : Step}
     → {z : Parser} (s : Somehow sees p tree)
-    → ((notes : List ℕ) → Turned sees rule rest gain lift p (buffers tree notes) r (buffers after notes)) → r ≡ Went z
+    → ((notes : List ℕ) → Turned sees rule rest gain lift p (buffers tree notes) r (buffers after notes)) → r ≡ Ok z
     → Somehow sees z after
 alone_behind s turned e = somehow_then s (ready_behind (turned s.notes) (known_alone s) e)
 
@@ -121,6 +121,6 @@ alone_behind s turned e = somehow_then s (ready_behind (turned s.notes) (known_a
 pub first-inside : {sees : Tables → Type 0} {rule : RuleOf} {rest : Tables → List Rule} {opening : ℕ → Here → Out Here} {gain lift n : ℕ}
     → {p : Parser} {tree after : List ℕ} {r : Step} {z : Parser} (s : Somehow sees p tree) → p.lexer.token < n
     → ((notes : List ℕ) → Opens opening p (buffers tree notes) r (buffers after notes))
-    → ((notes : List ℕ) → Turned sees rule rest gain lift p (buffers tree notes) r (buffers after notes)) → r ≡ Went z
+    → ((notes : List ℕ) → Turned sees rule rest gain lift p (buffers tree notes) r (buffers after notes)) → r ≡ Ok z
     → (z.lexer.token < n) × Somehow sees z after
 first-inside s next k turned e = (still_there s k e next, alone_behind s turned e)

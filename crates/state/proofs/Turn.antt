@@ -1,4 +1,6 @@
 -- How a call ended, for the walk of a routine: said once at the call, and read by every goal behind it. Assumes nothing.
+use Rattle.std.specs.Prelude.{Option, Ok, Err}
+use Rattle.syntax.specs.declared.refusal.Refused.{Refused}
 use mathlib.Core.Path.{◌≡◌, refl, ap, ◌∙◌}
 use native.Mathlib.Omega.{arith}
 use Rattle.rules.specs.Limits.{nodes}
@@ -11,15 +13,13 @@ use Rattle.rules.specs.Flat.{flat}
 use Rattle.rules.specs.Position as position
 use Rattle.rules.specs.Position.{Source}
 use Rattle.rules.specs.Routines.{start_around}
-use Rattle.state.specs.Stands.{Buffers, pos_of, option_of}
-use Rattle.state.specs.declared.Mark.{Mark}
+use Rattle.state.specs.Stands.{Buffers, Step, pos_of, option_of}
+use Rattle.builder.specs.declared.Checkpoint.{Checkpoint}
 use Rattle.builder.specs.Stands as shown
 use Rattle.builder.specs.declared.Frame.{Frame}
 use Rattle.state.specs.Contract.{Ready, Left, Begun, Ended, Runs, Opens, Begins, Closes, Ran, RuleOf, Told, buffers}
 use Rattle.state.specs.declared.Parser.{Parser}
-use Rattle.state.specs.declared.Step.{Step}
-use Rattle.state.specs.declared.Step.TheVariants.{Went, Refused}
-use Rattle.state.proofs.Walk.{Rule, Walk, Call, call_is, last_step, ran, opens, closes, Stopped, passes, enters, stops, arrives, leaves, steps_on, passed_then, weaker, gone_map}
+use Rattle.state.proofs.Walk.{Rule, Walk, Call, call_is, last_step, ran, opens, closes, passes, enters, stops, arrives, leaves, steps_on, passed_then, weaker, gone_map}
 
 -- ---- a node's start and its end, where the code computed the kind and the frame
 
@@ -42,7 +42,7 @@ module _ {t : Tables} {kind given : ℕ} {u : Parser} {r : Step} {tree after not
   finishes e f k = closes (rw (e, f) at (k notes))
 
 -- a node that begins around what stands from a mark on, where the code computed the mark
-pub around : (kind : ℕ) {t : Tables} {at given : Mark} {u : Parser} {r : Step} {tree after notes : List ℕ} {lift : ℕ} → given ≡ at
+pub around : (kind : ℕ) {t : Tables} {at given : Option Checkpoint} {u : Parser} {r : Step} {tree after notes : List ℕ} {lift : ℕ} → given ≡ at
     → ((s : Source) (notes : List ℕ) → Opens (λ n. start_around (flat n) s kind (option_of given)) u (buffers tree notes) r (buffers after notes))
     → Call t (λ n d. start_around (flat n) (source_of t) kind (option_of at)) lift (λ q. Begun t u (buffers tree notes) q (buffers after notes))
     u (buffers tree notes) r (buffers after notes)
@@ -63,7 +63,7 @@ ran-at rule {notes = notes} seen e k = ran seen (rw e at (k notes))
 
 -- a node's start reads nothing: what was next is next in the node
 pub still_next : {t : Tables} {f : Rule} {u : Parser} {v : Buffers} {r : Step} {x : Buffers} {z : Parser}
-    → Ready t u v → Call t f 0 (λ q. Begun t u v q x) u v r x → r ≡ Went z → u.lexer.token < token_count t.tokens
+    → Ready t u v → Call t f 0 (λ q. Begun t u v q x) u v r x → r ≡ Ok z → u.lexer.token < token_count t.tokens
     → z.lexer.token < token_count t.tokens
 still_next {t} {u = u} {v} {x = x} {z} ready k e next =
     let begun : Begun t u v z x = rw e at (k.gone ready) in
@@ -75,7 +75,7 @@ still_next {t} {u = u} {v} {x = x} {z} ready k e next =
 pub leaves-node : {t : Tables} {rule f : Rule} {rest : List Rule} {gain scope : ℕ} {s : Parser} {m : Buffers}
     → {u : Parser} {v : Buffers} {r : Step} {x : Buffers} {z : Parser}
     → Ready t s m → Walk t rule (f ∷ rest) gain 1 scope s m u v → Call t f 1 (λ q. Ended t s.builder.first s.builder.node u v q x) u v r x
-    → r ≡ Went z
+    → r ≡ Ok z
     → Walk t rule rest gain 0 scope s m z x
 leaves-node {gain = gain} ready w k e =
     let ended = leaves w k e in
@@ -100,8 +100,8 @@ leaves-node {gain = gain} ready w k e =
 
 -- it was refused, and so is the routine; or it went, and `rest` is left. Either way the buffers are as long as at the entry
 pub record Turn (t : Tables) (rule : Rule) (rest : List Rule) (gain lift scope : ℕ) (s : Parser) (m : Buffers) (r : Step) (x : Buffers) : Type 0 where
-  pub refused : {any : ℕ} → Stopped r → Runs t any (λ n d. rule n d (pos_of s m)) s m r x
-  pub went : {z : Parser} → r ≡ Went z → Walk t rule rest gain lift scope s m z x
+  pub refused : {any : ℕ} {e : Refused} → r ≡ Err e → Runs t any (λ n d. rule n d (pos_of s m)) s m (Err e) x
+  pub went : {z : Parser} → r ≡ Ok z → Walk t rule rest gain lift scope s m z x
   pub tree_long : length x.tree ≡ length m.tree
   pub notes_long : length x.dropped ≡ length m.dropped
 
@@ -144,8 +144,8 @@ pub done : {t : Tables} {rule : Rule} {gain : ℕ} {s : Parser} {m : Buffers} {r
 done {t} {rule} {gain} {s} {m} {r} {x} k = either r k
   where
     either : (r : Step) → Turn t rule [] gain 0 s.list.scope s m r x → Runs t gain (λ n d. rule n d (pos_of s m)) s m r x
-    either (Went z) k = arrives (k.went refl)
-    either (Refused number place) k = k.refused ((number, (place, tt)), refl)
+    either (Ok z) k = arrives (k.went refl)
+    either (Err e) k = k.refused refl
 
 -- a routine that begins a node by its last step, and reads nothing before it
 pub begins-last : {t : Tables} {rule f : Rule} {scope : ℕ} {s : Parser} {m : Buffers} {u : Parser} {v : Buffers} {r : Step} {x : Buffers}

@@ -1,4 +1,6 @@
 -- The walk of a routine's rule beside its code: one record for where the code stands, one law for each kind of call. Assumes nothing.
+use Rattle.std.specs.Prelude.{Result, Ok, Err, IsErr, IsErrAnd}
+use Rattle.syntax.specs.declared.refusal.Refused.{Refused}
 use mathlib.Core.Path.{◌≡◌, refl, sym, ap, ◌∙◌}
 use mathlib.Core.List.{List, [], ◌∷◌}
 use Prim.Native.Nat.{ℕ, zero, suc, ◌+◌, ◌*◌, ◌-◌, ◌≤◌}
@@ -8,29 +10,29 @@ use lib.Seq.{drop-drop}
 use Rattle.rules.specs.Limits.{nodes, tree_width, dropped_width}
 use Rattle.rules.specs.Outcome.{Out, went, refused, bind}
 use Rattle.rules.specs.Checks.{Tables, source_of}
-use Rattle.state.specs.Stands.{Buffers, Here, pos_of, out_of}
+use Rattle.state.specs.Stands.{Buffers, Here, Step, pos_of, out_of}
 use Rattle.state.specs.Contract.{Ready, Passed, Left, Begun, Ended, Gone, Told, RuleOf, Ran, Opens, Closes, Runs, Somehow, left_of, weight}
 use Rattle.state.specs.declared.Parser.{Parser}
-use Rattle.state.specs.declared.Step.{Step}
-use Rattle.state.specs.declared.Step.TheVariants.{Went, Refused}
 
 -- ---- answers
 
--- what the arm of a refusal is told of the answer
-abbrev pub Stopped : Step → Type 0
-Stopped r = (x : ℕ × (ℕ × Unit {0})) × (r ≡ Refused x.0 x.1.0)
+-- what the exit of a `?` is told: it is a refusal, the callee's
+abbrev pub HandsOn : {T : Type 0} → Result T Refused → Refused → Type 0
+HandsOn r x = IsErr r × IsErrAnd r (λ e. e ≡ x)
 
-pub stop : (o : Out Here) (f : Here → Out Here) (r : Step) (m v : Buffers) → o ≡ out_of r m → Stopped r → bind o f ≡ out_of r v
-stop o f r m v e st =
-    let e' : o ≡ refused st.0.0 st.0.1.0 = rw st.1 at e in
-    rw (e', st.1)
+pub handed : {T : Type 0} {r : Result T Refused} {x : Refused} → HandsOn r x → r ≡ Err x
+handed {r = Ok y} k = absurd k.1
+handed {r = Err e} k = ap Err k.1
 
-pub stopped : (Q : Parser → Type 0) (r : Step) → Stopped r → Gone Q r
-stopped Q r st = rw st.1 tt
+-- a refusal is handed on, whatever the buffers hold
+pub stop : (o : Out Here) (f : Here → Out Here) {r : Step} {x : Refused} (m v : Buffers) → o ≡ out_of r m → r ≡ Err x → bind o f ≡ out_of (Err x) v
+stop o f {r} {x} m v e st =
+    let e' : o ≡ refused x.number x.place = rw st at e in
+    rw e'
 
 pub gone_map : {P Q : Parser → Type 0} (r : Step) → ((q : Parser) → P q → Q q) → Gone P r → Gone Q r
-gone_map (Went q) f g = f q g
-gone_map (Refused number place) f g = tt
+gone_map (Ok q) f g = f q g
+gone_map (Err x) f g = tt
 
 pub then_went : (o : Out Here) (f : Here → Out Here) (p : Here) (x : Out Here) → o ≡ went p → f p ≡ x → bind o f ≡ x
 then_went o f p x e h = rw e h
@@ -185,11 +187,11 @@ module _ {t : Tables} {rule f : Rule} {rest : List Rule} {gain lift : ℕ} {scop
       rw w.passed.tree_long at (k.is w.ready d (omega arith))
 
   -- what a callee that went leaves
-  pub leaves : {Q : Parser → Type 0} {z : Parser} → Call t f lift Q u v r x → r ≡ Went z → Q z
+  pub leaves : {Q : Parser → Type 0} {z : Parser} → Call t f lift Q u v r x → r ≡ Ok z → Q z
   leaves k e = rw e at (k.gone w.ready)
 
   -- what is left of the rule when the callee went
-  pub steps_on : {Q : Parser → Type 0} {z : Parser} → Call t f lift Q u v r x → r ≡ Went z → (d : ℕ) → nodes ≤ s.builder.depth + d
+  pub steps_on : {Q : Parser → Type 0} {z : Parser} → Call t f lift Q u v r x → r ≡ Ok z → (d : ℕ) → nodes ≤ s.builder.depth + d
       → rule (length m.tree) d (pos_of s m) ≡ line rest (length m.tree) d (pos_of z x)
   unfolding line
   steps_on {z} k e d h =
@@ -197,7 +199,7 @@ module _ {t : Tables} {rule f : Rule} {rest : List Rule} {gain lift : ℕ} {scop
       w.is d h ∙ then_went _ _ _ _ (call_is k d h ∙ went_is) refl
 
   -- the callee went, and left the node as it was
-  pub passes : {more : ℕ} {z : Parser} → Call t f lift (λ q. Left t more u v q x) u v r x → r ≡ Went z
+  pub passes : {more : ℕ} {z : Parser} → Call t f lift (λ q. Left t more u v q x) u v r x → r ≡ Ok z
       → Walk t rule rest (gain + more) lift scope s m z x
   passes {z} k e =
       let left = leaves k e in
@@ -212,7 +214,7 @@ module _ {t : Tables} {rule f : Rule} {rest : List Rule} {gain lift : ℕ} {scop
       }
 
   -- the callee went, and opened a node
-  pub enters : {z : Parser} → Call t f lift (λ q. Begun t u v q x) u v r x → r ≡ Went z → Walk t rule rest gain (suc lift) scope s m z x
+  pub enters : {z : Parser} → Call t f lift (λ q. Begun t u v q x) u v r x → r ≡ Ok z → Walk t rule rest gain (suc lift) scope s m z x
   enters k e =
       let b = leaves k e in
       let depth = w.depth in
@@ -229,14 +231,15 @@ module _ {t : Tables} {rule f : Rule} {rest : List Rule} {gain lift : ℕ} {scop
       }
 
   -- the callee was refused: what the rule is
-  pub stops-is : {Q : Parser → Type 0} → Call t f lift Q u v r x → Stopped r → (y : Buffers) (d : ℕ) → nodes ≤ s.builder.depth + d
-      → rule (length m.tree) d (pos_of s m) ≡ out_of r y
+  pub stops-is : {Q : Parser → Type 0} {e : Refused} → Call t f lift Q u v r x → r ≡ Err e → (y : Buffers) (d : ℕ) → nodes ≤ s.builder.depth + d
+      → rule (length m.tree) d (pos_of s m) ≡ out_of (Err e) y
   unfolding line
-  stops-is k st y d h = w.is d h ∙ stop _ _ _ _ y (call_is k d h) st
+  stops-is k st y d h = w.is d h ∙ stop _ _ _ y (call_is k d h) st
 
   -- the callee was refused, and so is the routine
-  pub stops : {any : ℕ} {Q : Parser → Type 0} {y : Buffers} → Call t f lift Q u v r x → Stopped r → Runs t any (λ n d. rule n d (pos_of s m)) s m r y
-  stops {y} k st = record { is = stops-is k st y; gone = stopped _ _ st }
+  pub stops : {any : ℕ} {Q : Parser → Type 0} {y : Buffers} {e : Refused} → Call t f lift Q u v r x → r ≡ Err e
+      → Runs t any (λ n d. rule n d (pos_of s m)) s m (Err e) y
+  stops {y} k st = record { is = stops-is k st y; gone = tt }
 
 -- ---- a walk goes on without a call
 
@@ -270,7 +273,7 @@ module _ {t : Tables} {rule : Rule} {rest : List Rule} {gain lift : ℕ} {scope 
 
 -- nothing is left of the rule, in the routine's own node
 pub arrives : {t : Tables} {rule : Rule} {gain : ℕ} {s : Parser} {m : Buffers} {u : Parser} {v : Buffers}
-    → Walk t rule [] gain 0 s.list.scope s m u v → Runs t gain (λ n d. rule n d (pos_of s m)) s m (Went u) v
+    → Walk t rule [] gain 0 s.list.scope s m u v → Runs t gain (λ n d. rule n d (pos_of s m)) s m (Ok u) v
 unfolding line
 arrives w =
     let depth = w.depth in
@@ -312,7 +315,7 @@ ran-as {m = m} k same = record {
 
 -- a routine that did nothing
 pub nothing-done : {sees : Tables → Type 0} {rule : RuleOf} {p : Parser} {m : Buffers}
-    → ((t : Tables) → sees t → (n : ℕ) → rule (source_of t) n (pos_of p m) ≡ went (pos_of p m)) → Ran sees 0 rule p m (Went p) m
+    → ((t : Tables) → sees t → (n : ℕ) → rule (source_of t) n (pos_of p m) ≡ went (pos_of p m)) → Ran sees 0 rule p m (Ok p) m
 nothing-done {m = m} same = record {
   told = λ t seen ready. record {
     is = same t seen (length m.tree);

@@ -2,13 +2,9 @@
 use Rattle.std.specs.Prelude.{◌+◌, ◌-◌}
 use Rattle.lexer.specs.declared.cursor.Lexer.{Lexer}
 use Rattle.builder.specs.declared.GreenNodeBuilder.{GreenNodeBuilder}
-use Rattle.builder.specs.declared.Built.{Built}
-use Rattle.builder.specs.declared.Built.TheVariants as built
 use Rattle.state.specs.declared.KeptMark.{KeptMark}
 use Rattle.state.specs.declared.ListState.{ListState}
 use Rattle.state.specs.declared.Parser.{Parser}
-use Rattle.state.specs.declared.Step.{Step}
-use Rattle.state.specs.declared.Step.TheVariants.{Went, Refused}
 
 -- the cursor stands elsewhere
 abbrev pub relexed : Parser → Lexer → Parser
@@ -29,11 +25,6 @@ unheld p = record { lexer = p.lexer; held = p.lexer.token; list = p.list; builde
 -- the builder went on
 abbrev pub rebuilt : Parser → GreenNodeBuilder → Parser
 rebuilt p b = record { lexer = p.lexer; held = p.held; list = p.list; builder = b; dropped = p.dropped }
-
--- what a step of the builder comes to: all else is as it was
-abbrev pub building_of : Parser → Built → Step
-building_of p (built.Went b) = Went (rebuilt p b)
-building_of p (built.Refused number place) = Refused number place
 
 -- what was held has a dropped row for each token
 abbrev pub ignored : Parser → Parser

@@ -1,5 +1,5 @@
 -- What the contracts of the parser's routines say.
-use Rattle.std.specs.Prelude.{ℕ, ◌+◌, ◌*◌, ◌-◌, ◌/◌, ◌^◌, ◌≤◌, ◌<◌, ◌≡◌, Bool, List, eqb, length, drop}
+use Rattle.std.specs.Prelude.{ℕ, ◌+◌, ◌*◌, ◌-◌, ◌/◌, ◌^◌, ◌≤◌, ◌<◌, ◌≡◌, Bool, List, Ok, Err, eqb, length, drop}
 use Rattle.std.specs.Borrow.{Bor, MutBor}
 use denote.Triple.Both.{Both}
 use Rattle.rules.specs.Limits.{tokens, nodes, tree_width, dropped_width, shape_width}
@@ -18,12 +18,10 @@ use Rattle.lexer.specs.Fine.{Sound, Fine}
 use Rattle.builder.specs.Contract.{Fits, Within, Inside}
 use Rattle.builder.specs.declared.Frame.{Frame}
 use Rattle.builder.specs.declared.GreenNodeBuilder.{GreenNodeBuilder}
-use Rattle.state.specs.Stands.{Buffers, Here, checkpoint_of, pos_of, out_of}
+use Rattle.state.specs.Stands.{Buffers, Here, Step, checkpoint_of, pos_of, out_of}
 use Rattle.state.specs.Change.{ignored}
 use Rattle.state.specs.declared.KeptMark.{KeptMark}
 use Rattle.state.specs.declared.Parser.{Parser}
-use Rattle.state.specs.declared.Step.{Step}
-use Rattle.state.specs.declared.Step.TheVariants.{Went, Refused}
 
 -- ---- what a routine may assume
 
@@ -121,8 +119,8 @@ pub record Ended (t : Tables) (first node : ℕ) (p : Parser) (m : Buffers) (q :
 
 -- Q of the state, where an answer has one; a refusal has none
 abbrev pub Gone : (Parser → Type 0) → Step → Type 0
-Gone Q (Went q) = Q q
-Gone Q (Refused number place) = Unit {0}
+Gone Q (Ok q) = Q q
+Gone Q (Err refused) = Unit {0}
 
 -- ---- contracts
 

@@ -6,59 +6,19 @@ ghost use Rattle.rules.specs.Flat.{flat};
 ghost use Rattle.rules.specs.Position as spec;
 ghost use Rattle.syntax.specs.ParseScope.{number_of, scope_at, scope_of};
 ghost use Rattle.builder.specs.Stands as shown;
-ghost use Rattle.state.specs.Stands.{is_nothing, or_mark, mark_at, kept_of, mark_in, list_at};
-ghost use Rattle.state.specs.Change.{building_of, relexed, relisted, remarked, unheld};
+ghost use Rattle.syntax.specs.SyntaxKind.{number_of as kind_number};
+ghost use Rattle.state.specs.Stands.{mark_at, kept_of, mark_in, list_at};
+ghost use Rattle.state.specs.Change.{rebuilt, relexed, relisted, remarked, unheld};
 ghost use Rattle.builder.specs.Contract.{Fits, Within, Inside};
 ghost use Rattle.state.specs.Contract.{Leafs, Starts, Finishes};
 
-use builder::{Built, Checkpoint, Frame, GreenNodeBuilder};
+use builder::{Checkpoint, Frame, GreenNodeBuilder};
 use lexer::Lexer;
-use syntax::ParseScope;
+use syntax::{ParseScope, Refused, SyntaxKind};
 
-// `Option<Checkpoint>`.
-#[derive(Clone, Copy)]
-pub enum Mark {
-    Nothing,
-    At(Checkpoint),
-}
-
-impl Mark {
-    pub fn is_nothing(self) -> bool
-        ensures { result ≡ is_nothing self }
-    {
-        match self {
-            Self::Nothing => true,
-            Self::At(_) => false,
-        }
-    }
-
-    // `Option::or`: this mark where there is one, else the other.
-    pub fn or(self, other: Mark) -> Mark
-        ensures { result ≡ or_mark self other }
-    {
-        match self {
-            Self::Nothing => other,
-            Self::At(checkpoint) => Self::At(checkpoint),
-        }
-    }
-
-    fn kept(self) -> KeptMark
-        ensures { result ≡ kept_of self }
-    {
-        match self {
-            Self::Nothing => KeptMark {
-                children: 0,
-                row: 0,
-            },
-            Self::At(checkpoint) => KeptMark {
-                children: checkpoint.children,
-                row: checkpoint.row,
-            },
-        }
-    }
-}
-
-// A mark as the state keeps it, in two numbers: row 0 is the root's own start, where no mark is made, so it says that there is none.
+// A mark as the state keeps it, in two numbers: row 0 is the root's own start, where no mark is made, so it says that there is none. It is no
+// `Option<Checkpoint>`, as everywhere else, only for speed: the state goes by value, and with a tag in it the benchmark's binder took 48.5 for 14.6
+// nanoseconds a token (docs/DECISIONS.md, 'Only for speed').
 #[derive(Clone, Copy)]
 pub struct KeptMark {
     pub children: usize,
@@ -66,20 +26,35 @@ pub struct KeptMark {
 }
 
 impl KeptMark {
-    fn mark(self) -> Mark
+    fn of(mark: Option<Checkpoint>) -> Self
+        ensures { result ≡ kept_of mark }
+    {
+        match mark {
+            None => Self {
+                children: 0,
+                row: 0,
+            },
+            Some(checkpoint) => Self {
+                children: checkpoint.children,
+                row: checkpoint.row,
+            },
+        }
+    }
+
+    fn mark(self) -> Option<Checkpoint>
         ensures { result ≡ mark_in self }
     {
         if self.row == 0 {
-            return Mark::Nothing;
+            return None;
         }
-        Mark::At(Checkpoint {
+        Some(Checkpoint {
             children: self.children,
             row: self.row,
         })
     }
 }
 
-// A list has a scope, here by its number, a start mark and a last mark.
+// A list has a scope, a start mark and a last mark. The scope stands here by its number, as the marks do by two, and for the same reason.
 #[derive(Clone, Copy)]
 pub struct ListState {
     pub scope: usize,
@@ -94,8 +69,8 @@ impl ListState {
     {
         Self {
             scope: scope.number(),
-            start: Mark::Nothing.kept(),
-            last: Mark::Nothing.kept(),
+            start: KeptMark::of(None),
+            last: KeptMark::of(None),
         }
     }
 }
@@ -111,6 +86,8 @@ fn number(token: usize) -> u32
 }
 
 // What is read, the first held token, the list that is read, the builder's numbers, and how many rows are dropped.
+// What contracts ask of a state (`Ready`, `Fits`, `Somehow` ..) speaks of the tables and buffers that are lent beside it, so it can be no invariant
+// of this type: 01 has a small state by value beside lent slices. For the same reason a buffer's rows are counted here and not in the buffer.
 #[derive(Clone, Copy)]
 pub struct Parser {
     pub lexer: Lexer,
@@ -118,25 +95,6 @@ pub struct Parser {
     pub list: ListState,
     pub builder: GreenNodeBuilder,
     pub dropped: usize,
-}
-
-// What a routine comes to: the new state, or the number and the place of a refusal.
-#[derive(Clone, Copy)]
-pub enum Step {
-    Went(Parser),
-    Refused(u32, usize),
-}
-
-impl Step {
-    // The same, taken apart and put together again: what a call wrote in one piece can then lie in registers.
-    pub fn again(self) -> Self
-        ensures { result ≡ self }
-    {
-        match self {
-            Self::Went(p) => Self::Went(p),
-            Self::Refused(number, place) => Self::Refused(number, place),
-        }
-    }
 }
 
 impl Parser {
@@ -157,30 +115,35 @@ impl Parser {
     }
 
     // A list of a scope, with these marks.
-    pub fn with_scope(self, scope: ParseScope, start: Mark, last: Mark) -> Self
+    pub fn with_scope(
+        self,
+        scope: ParseScope,
+        start: Option<Checkpoint>,
+        last: Option<Checkpoint>,
+    ) -> Self
         ensures { result ≡ relisted self (record { scope = number_of scope; start = kept_of start; last = kept_of last }) }
     {
         self.with_list(ListState {
             scope: scope.number(),
-            start: start.kept(),
-            last: last.kept(),
+            start: KeptMark::of(start),
+            last: KeptMark::of(last),
         })
     }
 
     // The same list, with these marks.
-    pub fn with_marks(self, start: Mark, last: Mark) -> Self
+    pub fn with_marks(self, start: Option<Checkpoint>, last: Option<Checkpoint>) -> Self
         ensures { result ≡ remarked self (kept_of start) (kept_of last) }
     {
         let list = self.list;
         self.with_list(ListState {
             scope: list.scope,
-            start: start.kept(),
-            last: last.kept(),
+            start: KeptMark::of(start),
+            last: KeptMark::of(last),
         })
     }
 
     // The same list, with this last mark.
-    pub fn with_last(self, last: Mark) -> Self
+    pub fn with_last(self, last: Option<Checkpoint>) -> Self
         ensures { result ≡ remarked self self.list.start (kept_of last) }
     {
         let list = self.list;
@@ -188,7 +151,7 @@ impl Parser {
         self.with_list(ListState {
             scope: list.scope,
             start,
-            last: last.kept(),
+            last: KeptMark::of(last),
         })
     }
 
@@ -199,7 +162,7 @@ impl Parser {
         ParseScope::numbered(list.scope)
     }
 
-    pub fn list_start(self) -> Mark
+    pub fn list_start(self) -> Option<Checkpoint>
         ensures { result ≡ mark_in self.list.start }
     {
         let list = self.list;
@@ -207,7 +170,7 @@ impl Parser {
         start.mark()
     }
 
-    pub fn list_last(self) -> Mark
+    pub fn list_last(self) -> Option<Checkpoint>
         ensures { result ≡ mark_in self.list.last }
     {
         let list = self.list;
@@ -216,10 +179,10 @@ impl Parser {
     }
 
     // The mark here.
-    pub fn checkpoint(self) -> Mark
+    pub fn checkpoint(self) -> Option<Checkpoint>
         ensures { result ≡ mark_at self }
     {
-        Mark::At(self.builder.checkpoint())
+        Some(self.builder.checkpoint())
     }
 
     // Nothing is held.
@@ -231,86 +194,108 @@ impl Parser {
         next
     }
 
-    // What the builder came to, with all else as it is. Written by its fields, the list's too: a copy of the state that is changed, or of its list in
-    // one piece, would go through memory.
-    fn building(self, built: Built) -> Step
-        ensures { result ≡ building_of self built }
+    // The builder went on, and all else is as it is. Written by its fields, the list's too: a copy of the state that is changed, or of its list
+    // in one piece, would go through memory.
+    fn with_builder(self, builder: GreenNodeBuilder) -> Self
+        ensures { result ≡ rebuilt self builder }
     {
-        match built {
-            Built::Went(builder) => {
-                let lexer = self.lexer;
-                let list = self.list;
-                let start = list.start;
-                let last = list.last;
-                Step::Went(Parser {
-                    lexer,
-                    held: self.held,
-                    list: ListState {
-                        scope: list.scope,
-                        start: KeptMark {
-                            children: start.children,
-                            row: start.row,
-                        },
-                        last: KeptMark {
-                            children: last.children,
-                            row: last.row,
-                        },
-                    },
-                    builder,
-                    dropped: self.dropped,
-                })
-            }
-            Built::Refused(number, place) => Step::Refused(number, place),
+        let lexer = self.lexer;
+        let list = self.list;
+        let start = list.start;
+        let last = list.last;
+        Self {
+            lexer,
+            held: self.held,
+            list: ListState {
+                scope: list.scope,
+                start: KeptMark {
+                    children: start.children,
+                    row: start.row,
+                },
+                last: KeptMark {
+                    children: last.children,
+                    row: last.row,
+                },
+            },
+            builder,
+            dropped: self.dropped,
         }
+    }
+
+    // The same, taken apart and put together again. Only for speed: what a call wrote in pieces can then lie in registers, where behind a `?` it is
+    // read in one piece and the processor waits.
+    #[inline(always)]
+    pub fn again(self) -> Self
+        ensures { result ≡ self }
+    {
+        self.with_builder(self.builder)
     }
 
     // ---- the builder's operations, at the place of the first token not wholly read
 
     // A leaf of the next token.
-    pub fn leaf(self, tree: &mut [u32], kind: u32, start: u32, size: u32) -> Step
+    pub fn leaf(
+        self,
+        tree: &mut [u32],
+        kind: SyntaxKind,
+        start: u32,
+        size: u32,
+    ) -> Result<Self, Refused>
         requires { Fits self.builder tree.old }
-        ensures { Leafs tree self result (record { token = self.lexer.token; kind = kind; start = start; size = size }) }
+        ensures { Leafs tree self result (record { token = self.lexer.token; kind = kind_number kind; start = start; size = size }) }
     {
         self.leaf_of(tree, self.lexer.token, kind, start, size)
     }
 
     // A leaf of a token that was passed before, or is next.
-    pub fn leaf_of(self, tree: &mut [u32], token: usize, kind: u32, start: u32, size: u32) -> Step
+    pub fn leaf_of(
+        self,
+        tree: &mut [u32],
+        token: usize,
+        kind: SyntaxKind,
+        start: u32,
+        size: u32,
+    ) -> Result<Self, Refused>
         requires { Fits self.builder tree.old }
-        ensures { Leafs tree self result (record { token = token; kind = kind; start = start; size = size }) }
+        ensures { Leafs tree self result (record { token = token; kind = kind_number kind; start = start; size = size }) }
     {
         let place = number(self.lexer.token);
-        let built = self
+        let builder = self
             .builder
-            .token(tree, place, number(token), kind, start, size);
-        self.building(built)
+            .token(tree, place, number(token), kind, start, size)?;
+        Ok(self.with_builder(builder))
     }
 
-    pub fn start_node(self, tree: &mut [u32], kind: u32) -> Step
+    pub fn start_node(self, tree: &mut [u32], kind: SyntaxKind) -> Result<Self, Refused>
         requires { Fits self.builder tree.old }
-        ensures { Starts tree self result (λ n. spec.start (flat n) kind) }
+        ensures { Starts tree self result (λ n. spec.start (flat n) (kind_number kind)) }
     {
-        let built = self
+        let builder = self
             .builder
-            .start_node(tree, number(self.lexer.token), kind);
-        self.building(built)
+            .start_node(tree, number(self.lexer.token), kind)?;
+        Ok(self.with_builder(builder))
     }
 
-    pub fn finish_node(self, tree: &mut [u32], kind: u32, parent: Frame) -> Step
+    pub fn finish_node(
+        self,
+        tree: &mut [u32],
+        kind: SyntaxKind,
+        parent: Frame,
+    ) -> Result<Self, Refused>
         requires { Fits self.builder tree.old × Within self.builder }
-        ensures { Finishes tree self parent result (λ n. spec.finish (flat n) kind (shown.frame_of parent)) }
+        ensures { Finishes tree self parent result (λ n. spec.finish (flat n) (kind_number kind) (shown.frame_of parent)) }
     {
-        let built = self
+        let builder = self
             .builder
-            .finish_node(tree, number(self.lexer.token), kind, parent);
-        self.building(built)
+            .finish_node(tree, number(self.lexer.token), kind, parent)?;
+        Ok(self.with_builder(builder))
     }
 
-    pub fn wrap(self, tree: &mut [u32], kind: u32, at: Checkpoint) -> Step
+    pub fn wrap(self, tree: &mut [u32], kind: SyntaxKind, at: Checkpoint) -> Result<Self, Refused>
         requires { Fits self.builder tree.old × Within self.builder × Inside at self.builder }
-        ensures { Starts tree self result (λ n. spec.wrap (flat n) kind (shown.mark_of at)) }
+        ensures { Starts tree self result (λ n. spec.wrap (flat n) (kind_number kind) (shown.mark_of at)) }
     {
-        let built = self.builder.wrap(tree, number(self.lexer.token), kind, at);
-        self.building(built)
+        let builder = self.builder.wrap(tree, number(self.lexer.token), kind, at)?;
+        Ok(self.with_builder(builder))
     }
 }

@@ -5,7 +5,7 @@ use Rattle.builder.proofs.Laws.{leafed}
 use Rattle.builder.proofs.GreenNodeBuilder.token.Goals as goal
 
 pub returns-then-tree-rows : goal.returns-then-tree-rows
-returns-then-tree-rows c = record { is = leaf-full _ _ _ c.if-tree-rows.true _; rest = refl }
+returns-then-tree-rows c = rw c.at.ensures (record { is = leaf-full _ _ _ c.if-tree-rows.true _; rest = refl })
 
 pub returns : goal.returns
 returns c = leafed _ _ _ c.if-tree-rows.false _ _ c.put.ensures
