@@ -1,4 +1,6 @@
 -- An argument's node: it begins once what is held is dropped, and behind its end nothing is held. Assumes nothing.
+use Rattle.std.specs.Prelude.{Ok, Err}
+use Rattle.syntax.specs.declared.refusal.Refused.{Refused}
 use mathlib.Core.Path.{◌≡◌, refl, ap, ◌∙◌}
 use mathlib.Core.List.{List}
 use Prim.Native.Nat.{ℕ}
@@ -12,16 +14,14 @@ use Rattle.rules.specs.Checks.{Tables, source_of}
 use Rattle.builder.specs.Contract.{Fits}
 use Rattle.builder.specs.Stands as shown
 use Rattle.builder.specs.declared.Frame.{Frame as CodeFrame}
-use Rattle.state.specs.Stands.{Buffers, out_of}
+use Rattle.state.specs.Stands.{Buffers, Step, out_of}
 use Rattle.state.specs.Change.{unheld}
 use Rattle.state.specs.Contract.{Ended, Opens, Begins, Closes, Holding, Ignored, Slice, LeftOf, buffers}
 use Rattle.state.specs.declared.Parser.{Parser}
-use Rattle.state.specs.declared.Step.{Step}
-use Rattle.state.specs.declared.Step.TheVariants.{Went}
 use Rattle.routines.proofs.HeldLaws.{ignores}
 use Rattle.state.proofs.Left.{steady_changed}
 use Rattle.state.proofs.Turn.{begins-last}
-use Rattle.state.proofs.Walk.{line, begins, passes, opens, passing, Stopped, stop, stopped, then_went}
+use Rattle.state.proofs.Walk.{line, begins, passes, opens, passing, HandsOn, handed, stop, then_went}
 
 -- ---- its begin
 
@@ -48,14 +48,15 @@ left-still tokens word p q t same is = rw same is
 
 module _ (frame : Frame) {p : Parser} {m : Buffers} {r : Step} {v : Buffers} {first node : ℕ}
     (finished : Closes (λ n. position.finish (flat n) ClauseArgument frame) first node p m r v) where
-  pub end-stops : Stopped r → (s : Source) → Closes (λ n. spec.argument_ends (flat n) s frame) first node p m r v
+  pub end-stops : {e : Refused} {z : Step} → r ≡ Err e → HandsOn z e → (s : Source)
+      → Closes (λ n. spec.argument_ends (flat n) s frame) first node p m z v
   unfolding spec.argument_ends steps
-  end-stops st s = record {
-    told = λ t ready. record { is = stop _ _ _ _ v (finished.told t ready).is st; gone = stopped _ _ st };
-  }
+  end-stops st hands s = rw (handed hands) (record {
+    told = λ t ready. record { is = stop _ _ _ v (finished.told t ready).is st; gone = tt };
+  })
 
-  pub end-unholds : {q z : Parser} → r ≡ Went q → z ≡ unheld q → (s : Source)
-      → Closes (λ n. spec.argument_ends (flat n) s frame) first node p m (Went z) v
+  pub end-unholds : {q z : Parser} → r ≡ Ok q → z ≡ unheld q → (s : Source)
+      → Closes (λ n. spec.argument_ends (flat n) s frame) first node p m (Ok z) v
   unfolding spec.argument_ends steps
   end-unholds {q} {z} e is s = rw is (record {
     told = λ t ready.

@@ -1,8 +1,10 @@
 -- A routine that goes by the next token's kind: from what `peek` told, it is the routine of that arm, or nothing is done. Assumes nothing.
+use Rattle.std.specs.Prelude.{Ok}
+use Rattle.state.specs.Stands.{Step}
 use mathlib.Core.Path.{◌≡◌, sym, ap, ◌∙◌}
 use mathlib.Core.Bool.{Bool, true, false}
 use mathlib.Core.List.{List}
-use mathlib.Core.Option.{Option}
+use Rattle.std.specs.Prelude.{Option}
 use Prim.Native.Nat.{ℕ, ◌<◌}
 use lib.Dec.{eqb}
 use Rattle.rules.specs.Checks.{Tables, source_of}
@@ -16,8 +18,6 @@ use Rattle.lexer.specs.Reading.{cursor_of}
 use Rattle.state.specs.Contract.{Ran, RuleOf}
 use Rattle.state.specs.Stands.{Buffers, Here, pos_of}
 use Rattle.state.specs.declared.Parser.{Parser}
-use Rattle.state.specs.declared.Step.{Step}
-use Rattle.state.specs.declared.Step.TheVariants.{Went}
 use Rattle.routines.proofs.Eating.{asked-there}
 use Rattle.state.proofs.Walk.{nothing-done, ran-as, ran-less}
 
@@ -42,7 +42,7 @@ module _ {sees : Tables → Type 0} {tokens : List ℕ} (rows : (t : Tables) →
   arm_ran is k = ran-less (ran-as k (λ t seen n. arm_is of t tokens n (pos_of p m) (rows t seen) told ∙ is (source_of t) n (pos_of p m)))
 
   -- the arm does nothing
-  pub arm_stays : ((s : Source) (n : ℕ) (q : Here) → of next s n q ≡ went q) → Ran sees 0 (by_next of) p m (Went p) m
+  pub arm_stays : ((s : Source) (n : ℕ) (q : Here) → of next s n q ≡ went q) → Ran sees 0 (by_next of) p m (Ok p) m
   arm_stays is = nothing-done (λ t seen n. arm_is of t tokens n (pos_of p m) (rows t seen) told ∙ is (source_of t) n (pos_of p m))
 
 -- ---- what is read where the next token is of a kind, from what the code was told of it
@@ -65,5 +65,5 @@ module _ (tokens : List ℕ) (kind : ℕ) (p : Parser) {answer : Bool} (told : a
     pub kind_next : {gain : ℕ} {r : Step} {v : Buffers} → answer ≡ true → Ran sees gain read p m r v → Ran sees 0 (if_next_lem kind read) p m r v
     kind_next is k = ran-less (ran-as k (λ t seen n. rw (asks is t seen)))
 
-    pub other_next : answer ≡ false → Ran sees 0 (if_next_lem kind read) p m (Went p) m
+    pub other_next : answer ≡ false → Ran sees 0 (if_next_lem kind read) p m (Ok p) m
     other_next is = nothing-done (λ t seen n. rw (asks is t seen))

@@ -1,4 +1,6 @@
 -- A loop that eats tokens while their kind passes a test: its rule asks the kind, and its turns are those of any loop that eats. Assumes nothing.
+use Rattle.std.specs.Prelude.{Ok, Err}
+use Rattle.syntax.specs.declared.refusal.Refused.{Refused}
 use mathlib.Core.Path.{◌≡◌, refl, sym, ap, ◌∙◌}
 use mathlib.Core.Bool.{Bool, true, false}
 use mathlib.Core.List.{List, [], ◌∷◌}
@@ -14,13 +16,11 @@ use Rattle.rules.specs.Routines.{eat, eat_while}
 use Rattle.rules.specs.Tables.{token_count}
 use Rattle.lexer.specs.Reading.{cursor_of}
 use Rattle.lexer.proofs.Laws.{peek-none, le_or_lt}
-use Rattle.state.specs.Stands.{pos_of}
+use Rattle.state.specs.Stands.{Step, pos_of}
 use Rattle.state.specs.Contract.{Ready, Ran, RuleOf, Somehow, buffers}
 use Rattle.state.specs.declared.Parser.{Parser}
-use Rattle.state.specs.declared.Step.{Step}
-use Rattle.state.specs.declared.Step.TheVariants.{Went}
 use Rattle.state.proofs.Loop.{Far, OneTurn, far_begins, one-turn, less_left, far_goes_on}
-use Rattle.state.proofs.Walk.{Rule, line, turns, stops, arrives, ran, ran-by, somehow_then, Stopped}
+use Rattle.state.proofs.Walk.{Rule, line, turns, stops, arrives, ran, ran-by, somehow_then, HandsOn, handed}
 
 -- where a test of the next token passes, one is there
 pub asked-there : (test : ℕ → Bool) (tokens : List ℕ) (c : Cursor) → asked test (peek tokens c) ≡ true → c.token < token_count tokens
@@ -74,19 +74,19 @@ module _ {test : ℕ → Bool} {tokens : List ℕ} {p : Parser} {tree : List ℕ
 
       module _ {r : Step} {last : List ℕ}
           (ate : (notes : List ℕ) → Ran (Sees tokens) 1 (λ s n. eat (flat n) s) q (buffers after notes) r (buffers last notes)) where
-        pub eating_goes_on : {z : Parser} → r ≡ Went z → Eating test tokens p tree z last
+        pub eating_goes_on : {z : Parser} → r ≡ Ok z → Eating test tokens p tree z last
         eating_goes_on went_on = record { far = λ t notes seen ready. far_goes_on (turn t notes seen ready) (ran seen (ate notes)) went_on }
 
         -- and less is left
-        pub eating_less : {z : Parser} → Somehow (Sees tokens) p tree → r ≡ Went z
+        pub eating_less : {z : Parser} → Somehow (Sees tokens) p tree → r ≡ Ok z
             → left tokens (cursor_of z.lexer) < left tokens (cursor_of q.lexer)
         eating_less s went_on =
             let less = less_left (turn s.t s.notes s.seen s.ready) (ran s.seen (ate s.notes)) went_on in
             rw (← s.seen) (omega arith)
 
-        pub eating_stops : {any : List ℕ} → Stopped r → (notes : List ℕ)
-            → Ran (Sees tokens) 0 (eating test) p (buffers tree notes) r (buffers any notes)
-        eating_stops st notes = ran-by (λ t seen ready. stops (turn t notes seen ready).walk (ran seen (ate notes)) st)
+        pub eating_stops : {any : List ℕ} {e : Refused} {s : Step} → r ≡ Err e → HandsOn s e → (notes : List ℕ)
+            → Ran (Sees tokens) 0 (eating test) p (buffers tree notes) s (buffers any notes)
+        eating_stops st hands notes = rw (handed hands) (ran-by (λ t seen ready. stops (turn t notes seen ready).walk (ran seen (ate notes)) st))
 
     module _ (no : answer ≡ false) where
       ended : (t : Tables) (notes : List ℕ) → Sees tokens t → (fuel : ℕ) → (n d : ℕ)
@@ -97,5 +97,5 @@ module _ {test : ℕ → Bool} {tokens : List ℕ} {p : Parser} {tree : List ℕ
           let asks : asked test (peek t.tokens (cursor_of q.lexer)) ≡ false = rw seen (sym told ∙ no) in
           rw asks
 
-      pub eating_ends : (notes : List ℕ) → Ran (Sees tokens) 0 (eating test) p (buffers tree notes) (Went q) (buffers after notes)
+      pub eating_ends : (notes : List ℕ) → Ran (Sees tokens) 0 (eating test) p (buffers tree notes) (Ok q) (buffers after notes)
       eating_ends notes = ran-by (λ t seen ready. let f = e.far t notes seen ready in arrives (turns f.walk (ended t notes seen f.fuel)))

@@ -1,5 +1,7 @@
 -- Held trivia: each token of a range is dropped, or becomes a leaf, in the order of holding; a held token that becomes a leaf
 -- adds nothing to the weight. Assumes nothing.
+use Rattle.std.specs.Prelude.{Ok, Err}
+use Rattle.syntax.specs.declared.refusal.Refused.{Refused}
 use mathlib.Core.Path.{◌≡◌, refl, ap, ◌∙◌}
 use mathlib.Core.List.{List, ◌++◌}
 use Prim.Native.Nat.{ℕ, suc, ◌+◌, ◌*◌, ◌-◌, ◌≤◌, ◌<◌}
@@ -21,21 +23,19 @@ use Rattle.lexer.proofs.Laws.{eaten-fine, left-eaten}
 use Rattle.builder.specs.Contract.{Fits}
 use Rattle.builder.specs.Stands.{rows_of}
 use Rattle.builder.proofs.Numbers.{one_more, the_rest}
-use Rattle.state.specs.Stands.{Buffers, Here, pos_of, out_of}
+use Rattle.state.specs.Stands.{Buffers, Here, Step, pos_of, out_of}
 use Rattle.state.specs.Change.{relexed, unheld}
 use Rattle.state.specs.Contract.{Ready, Left, Leafed, Told, Ran, Holding, Droppable, Ignored, buffers}
 use Rattle.state.specs.declared.Parser.{Parser}
-use Rattle.state.specs.declared.Step.{Step}
-use Rattle.state.specs.declared.Step.TheVariants.{Went}
 use Rattle.state.proofs.Left.{remains}
-use Rattle.state.proofs.Walk.{Call, Stopped, stop, stopped, drop_more, passing}
+use Rattle.state.proofs.Walk.{HandsOn, handed, Call, stop, drop_more, passing}
 
 -- ---- a token is held
 
 -- the next one, where there is one
 pub holds : {t : Tables} {p : Parser} {m : Buffers} {r : Parser} {lift : ℕ} → p.lexer.token < token_count t.tokens
     → r ≡ relexed p (record { token = p.lexer.token + 1; taken = 0 })
-    → Call t (λ n d q. went (hold_trivia (flat n) (source_of t) q)) lift (λ q. Left t 1 p m q m) p m (Went r) m
+    → Call t (λ n d q. went (hold_trivia (flat n) (source_of t) q)) lift (λ q. Left t 1 p m q m) p m (Ok r) m
 holds there e = rw e (record {
   is = λ ready d h. refl;
   gone = λ ready.
@@ -153,7 +153,7 @@ module _ (p : Parser) (before : List ℕ) where
 -- a routine that drops what is held, as a step of a walk
 pub ignores : {t : Tables} {p : Parser} {tree before : List ℕ} {r : Parser} {after : List ℕ} {lift : ℕ} → Holding p → Ignored p before r after
     → Call t (λ n d. ignore_holding_trivia (flat n) (source_of t)) lift (λ q. Left t 0 p (buffers tree before) q (buffers tree after))
-    p (buffers tree before) (Went r) (buffers tree after)
+    p (buffers tree before) (Ok r) (buffers tree after)
 ignores {t} {p} {tree} h k = record {
   is = λ ready d enough. k.is (source_of t) (length tree) tree;
   gone = λ ready.
@@ -228,7 +228,7 @@ module _ (tokens : List ℕ) (p : Parser) (tree : List ℕ) where
       this_is : (notes : List ℕ) → written notes ≡ out_of r (with_notes last notes)
       this_is notes = rw far.long at (wrote_this notes).is
 
-      pub extracting_goes_on : {z : Parser} → length last ≡ length after → r ≡ Went z → Extracting last z (i + 1)
+      pub extracting_goes_on : {z : Parser} → length last ≡ length after → r ≡ Ok z → Extracting last z (i + 1)
       extracting_goes_on {z} kept e =
           let w : Leafed q after z last = rw e at (wrote_this after).gone in
           let leaves = far.leaves in
@@ -253,15 +253,17 @@ module _ (tokens : List ℕ) (p : Parser) (tree : List ℕ) where
             dropped = w.dropped ∙ far.dropped;
           }
 
-      pub extracting_stops : {any : List ℕ} → Stopped r → (notes : List ℕ)
-          → Ran Sees 0 (λ s n. extract_holding_trivia (flat n) s) p (with_notes tree notes) r (with_notes any notes)
+      pub extracting_stops : {any : List ℕ} {e : Refused} {s : Step} → r ≡ Err e → HandsOn s e → (notes : List ℕ)
+          → Ran Sees 0 (λ s n. extract_holding_trivia (flat n) s) p (with_notes tree notes) s (with_notes any notes)
       unfolding extract_holding_trivia
-      extracting_stops st notes = record {
+      extracting_stops st hands notes = rw (handed hands) (record {
         told = λ t seen ready. record {
-          is = stop _ _ _ (with_notes last notes) _ (far.is t notes seen ∙ turn t notes seen ∙ stop _ _ _ _ _ (this_is notes) st) st;
-          gone = stopped _ _ st;
+          is =
+              let here = with_notes last notes in
+              stop _ _ here here (far.is t notes seen ∙ turn t notes seen ∙ stop _ _ here here (this_is notes) st) refl;
+          gone = tt;
         };
-      }
+      })
 
     extracted : p.lexer.token ≤ i → (t : Tables) (notes : List ℕ) → Sees t
         → extract_holding_trivia (flat (length tree)) (source_of t) (pos_of p (with_notes tree notes))
@@ -273,7 +275,7 @@ module _ (tokens : List ℕ) (p : Parser) (tree : List ℕ) where
         rw all
 
     pub extracting_ends : {u : Parser} → p.lexer.token ≤ i → u ≡ unheld q → (notes : List ℕ)
-        → Ran Sees 0 (λ s n. extract_holding_trivia (flat n) s) p (with_notes tree notes) (Went u) (with_notes after notes)
+        → Ran Sees 0 (λ s n. extract_holding_trivia (flat n) s) p (with_notes tree notes) (Ok u) (with_notes after notes)
     extracting_ends end e notes = rw e (record {
       told = λ t seen ready.
           let s = ready.steady in

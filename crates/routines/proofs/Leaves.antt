@@ -1,4 +1,6 @@
 -- A leaf is written and the cursor moves on: each leaf takes something of what is left to read. Assumes nothing.
+use Rattle.std.specs.Prelude.{Ok, Err}
+use Rattle.syntax.specs.declared.refusal.Refused.{Refused}
 use mathlib.Core.Path.{◌≡◌, refl, ap, ◌∙◌}
 use mathlib.Core.List.{List}
 use Prim.Native.Nat.{ℕ, ◌+◌, ◌≤◌, ◌<◌}
@@ -22,14 +24,12 @@ use Rattle.lexer.specs.Fine as row
 use Rattle.lexer.proofs.Laws.{here, eaten-fine, left-eaten, le_or_lt, consumed-all, consumed-part, char_fine, char_left}
 use mathlib.Core.Logic.{⊎_elim}
 use Rattle.lexer.specs.declared.cursor.Lexer.{Lexer}
-use Rattle.state.specs.Stands.{Buffers, Here, pos_of, out_of}
+use Rattle.state.specs.Stands.{Buffers, Here, Step, pos_of, out_of}
 use Rattle.state.specs.Change.{relexed}
 use Rattle.state.specs.Contract.{Ready, Left, Leafed, Told, Ran, RuleOf, Somehow, buffers}
 use Rattle.state.specs.declared.Parser.{Parser}
-use Rattle.state.specs.declared.Step.{Step}
-use Rattle.state.specs.declared.Step.TheVariants.{Went}
 use Rattle.state.proofs.Left.{remains}
-use Rattle.state.proofs.Walk.{Stopped, stop, stopped, passing}
+use Rattle.state.proofs.Walk.{HandsOn, handed, stop, passing}
 
 -- a leaf, and then the cursor stands elsewhere
 abbrev pub leaf-then : Leaf → (Cursor → Cursor) → ℕ → Here → Out Here
@@ -66,17 +66,18 @@ module _ {sees : Tables → Type 0} {rule : RuleOf} {p : Parser} {tree after : L
     {r : Step}
     (wrote : (notes : List ℕ)
     → Told (λ n. position.leaf (flat n) leaf) (λ u. Leafed p tree u after) p (buffers tree notes) r (buffers after notes)) where
-  pub leaf-stops : {any : List ℕ} → Stopped r → (notes : List ℕ) → Ran sees 1 rule p (buffers tree notes) r (buffers any notes)
-  leaf-stops {any} st notes = record {
+  pub leaf-stops : {any : List ℕ} {e : Refused} {s : Step} → r ≡ Err e → HandsOn s e → (notes : List ℕ)
+      → Ran sees 1 rule p (buffers tree notes) s (buffers any notes)
+  leaf-stops {any} st hands notes = rw (handed hands) (record {
     told = λ t seen ready. record {
-      is = is t seen notes (length tree) ∙ stop _ _ _ _ (buffers any notes) (wrote notes).is st;
-      gone = stopped _ _ st;
+      is = is t seen notes (length tree) ∙ stop _ _ _ (buffers any notes) (wrote notes).is st;
+      gone = tt;
     };
-  }
+  })
 
-  pub leaf-goes_on : {q z : Parser} (l : Lexer) → r ≡ Went q → z ≡ relexed q l → cursor_of l ≡ next (cursor_of q.lexer) → length after ≡ length tree
+  pub leaf-goes_on : {q z : Parser} (l : Lexer) → r ≡ Ok q → z ≡ relexed q l → cursor_of l ≡ next (cursor_of q.lexer) → length after ≡ length tree
       → ((t : Tables) (notes : List ℕ) → sees t → Ready t p (buffers tree notes) → Onward t p (cursor_of l))
-      → (notes : List ℕ) → Ran sees 1 rule p (buffers tree notes) (Went z) (buffers after notes)
+      → (notes : List ℕ) → Ran sees 1 rule p (buffers tree notes) (Ok z) (buffers after notes)
   leaf-goes_on {q} l e ez moves long on notes =
       let to-went = ap (λ (y : Step). out_of y (buffers after notes)) e in
       let at-went : position.leaf (flat (length tree)) leaf (pos_of p (buffers tree notes)) ≡ went (pos_of q (buffers after notes)) =
@@ -123,7 +124,7 @@ eat-as_is t tokens p m kind start size seen start_is size_is n = rw (seen, start
 
 -- writing a leaf moves no cursor
 pub same-lexer : {rule : ℕ → Here → Out Here} {p q : Parser} {tree after : List ℕ} {m v : Buffers} {r : Step}
-    → Told rule (λ u. Leafed p tree u after) p m r v → r ≡ Went q → q.lexer ≡ p.lexer
+    → Told rule (λ u. Leafed p tree u after) p m r v → r ≡ Ok q → q.lexer ≡ p.lexer
 same-lexer {p = p} {q} {tree} {after} k e = let w : Leafed p tree q after = rw e at k.gone in w.lexer
 
 -- ---- one character of a Word is passed

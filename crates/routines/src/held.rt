@@ -7,8 +7,8 @@ ghost use Rattle.state.specs.Contract.{Droppable, Grows, Ignored, Somehow, Token
 
 use builder::drop_token;
 use lexer::{Column, cell};
-use state::{Parser, Step};
-use syntax::{Reason, SyntaxKind};
+use state::Parser;
+use syntax::{Reason, Refused, SyntaxKind};
 
 // The next token is held: it counts as read.
 pub fn hold_trivia(p: Parser) -> Parser
@@ -23,18 +23,16 @@ pub fn ignore_holding_trivia(dropped: &mut [u32], p: Parser) -> Parser
     requires { Droppable p dropped.old }
     ensures { Ignored p dropped.old result dropped.new }
 {
-    let mut token = p.held;
     let mut count = p.dropped;
-    while token < p.lexer.token {
+    for token in p.held..p.lexer.token {
         drop_token(
             dropped,
             count,
             token as u32,
-            Reason::TRIVIA,
+            Reason::Trivia,
             p.builder.leaves as u32,
         );
-        token = token + 1;
-        count = count + 1;
+        count += 1;
     }
     let mut next = p.holding_none();
     next.dropped = count;
@@ -42,22 +40,20 @@ pub fn ignore_holding_trivia(dropped: &mut [u32], p: Parser) -> Parser
 }
 
 // What is held becomes leaves.
-pub fn extract_holding_trivia(tokens: &[u32], tree: &mut [u32], p: Parser) -> Step
+pub fn extract_holding_trivia(
+    tokens: &[u32],
+    tree: &mut [u32],
+    p: Parser,
+) -> Result<Parser, Refused>
     requires { Somehow (Tokens tokens) p tree.old }
     ensures { Grows (Tokens tokens.entry) tree p result 0 (λ s n. spec.extract_holding_trivia (flat n) s) }
 {
     let mut now = p;
-    let mut token = now.held;
-    while token < p.lexer.token {
+    for token in now.held..p.lexer.token {
         let kind = SyntaxKind::from_token(cell(tokens, token, Column::KIND));
         let start = cell(tokens, token, Column::START);
         let size = cell(tokens, token, Column::LENGTH);
-        let written = now.leaf_of(tree, token, kind, start, size);
-        let Step::Went(leafed) = written else {
-            return written;
-        };
-        now = leafed;
-        token = token + 1;
+        now = now.leaf_of(tree, token, kind, start, size)?;
     }
-    Step::Went(now.holding_none())
+    Ok(now.holding_none())
 }

@@ -2,9 +2,12 @@
 #![tactic(auto)]
 
 mod held;
+mod question;
 mod tokens;
 
 pub use held::{extract_holding_trivia, hold_trivia, ignore_holding_trivia};
+pub use question::{Question, TextComponent, Trivia};
 pub use tokens::{
-    eat, eat_as, eat_if, next_is, one_in, single_char, trivia, word_character, word_next,
+    asked, eat, eat_as, eat_if, eat_while, next_is, one_in, single_char, trivia, word_character,
+    word_next,
 };

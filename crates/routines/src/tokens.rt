@@ -5,28 +5,33 @@ ghost use Rattle.rules.specs.Cursor.{peek};
 ghost use Rattle.rules.specs.Kinds.{is_trivia};
 ghost use Rattle.rules.specs.Position.{asked};
 ghost use Rattle.lexer.specs.Reading.{cursor_of};
+ghost use Rattle.syntax.specs.SyntaxKind.{number_of};
 ghost use Rattle.rules.specs.Routines as spec;
 ghost use Rattle.state.specs.Contract.{AtWord, Grows, LeftOf, Somehow, Texts, There, Tokens, is_word};
 
-use lexer::{Column, Peeked, cell, char_len};
-use state::{Parser, Step};
-use syntax::{SyntaxKind, Token};
+use crate::question::{Question, Trivia};
+use lexer::{Column, cell, char_len};
+use state::Parser;
+use syntax::{Refused, SyntaxKind, Token};
 
 // What is left of the next token becomes a leaf of this kind.
-pub fn eat_as(tokens: &[u32], tree: &mut [u32], p: Parser, kind: u32) -> Step
+pub fn eat_as(
+    tokens: &[u32],
+    tree: &mut [u32],
+    p: Parser,
+    kind: SyntaxKind,
+) -> Result<Parser, Refused>
     requires { There tokens p × Somehow (Tokens tokens) p tree.old }
-    ensures { Grows (Tokens tokens.entry) tree p result 1 (λ s n. spec.eat_as (flat n) s kind) }
+    ensures { Grows (Tokens tokens.entry) tree p result 1 (λ s n. spec.eat_as (flat n) s (number_of kind)) }
 {
     let start = p.lexer.rest_start(tokens);
     let size = p.lexer.rest_length(tokens);
-    let written = p.leaf(tree, kind, start, size);
-    let Step::Went(leafed) = written else {
-        return written;
-    };
-    Step::Went(leafed.with_lexer(leafed.lexer.eat()))
+    let leafed = p.leaf(tree, kind, start, size)?;
+    Ok(leafed.with_lexer(leafed.lexer.eat()))
 }
 
-pub fn eat(tokens: &[u32], tree: &mut [u32], p: Parser) -> Step
+#[inline(always)]
+pub fn eat(tokens: &[u32], tree: &mut [u32], p: Parser) -> Result<Parser, Refused>
     requires { There tokens p × Somehow (Tokens tokens) p tree.old }
     ensures { Grows (Tokens tokens.entry) tree p result 1 (λ s n. spec.eat (flat n) s) }
 {
@@ -38,61 +43,63 @@ pub fn eat(tokens: &[u32], tree: &mut [u32], p: Parser) -> Step
 pub fn next_is(tokens: &[u32], p: Parser, kind: u32) -> bool
     ensures { result ≡ asked (eqb kind) (peek tokens.now (cursor_of p.lexer)) }
 {
-    let peeked = p.lexer.peek(tokens);
-    let Peeked::Kind(next) = peeked else {
-        return false;
-    };
-    kind == next
+    p.lexer.peek(tokens) == Some(kind)
 }
 
-pub fn eat_if(tokens: &[u32], tree: &mut [u32], p: Parser, kind: u32) -> Step
+pub fn eat_if(tokens: &[u32], tree: &mut [u32], p: Parser, kind: u32) -> Result<Parser, Refused>
     requires { Somehow (Tokens tokens) p tree.old }
     ensures { Grows (Tokens tokens.entry) tree p result 0 (λ s n. spec.eat_if (flat n) s kind) }
 {
     if next_is(tokens, p, kind) {
         return eat(tokens, tree, p);
     }
-    Step::Went(p)
+    Ok(p)
 }
 
-// Whether a next token is there that is trivia.
-fn more_trivia(tokens: &[u32], p: Parser) -> bool
-    ensures { result ≡ asked is_trivia (peek tokens.now (cursor_of p.lexer)) }
+// Whether a next token is there whose kind has this answer.
+pub fn asked<Q: Question>(tokens: &[u32], p: Parser) -> bool
+    ensures { result ≡ asked Q.of (peek tokens.now (cursor_of p.lexer)) }
 {
-    let peeked = p.lexer.peek(tokens);
-    let Peeked::Kind(kind) = peeked else {
-        return false;
-    };
-    Token::is_trivia(kind)
+    p.lexer.peek(tokens).is_some_and(|kind| Q::holds(kind))
 }
 
-pub fn trivia(tokens: &[u32], tree: &mut [u32], p: Parser) -> Step
+// Tokens become leaves as long as the answer is yes.
+pub fn eat_while<Q: Question>(
+    tokens: &[u32],
+    tree: &mut [u32],
+    p: Parser,
+) -> Result<Parser, Refused>
+    requires { Somehow (Tokens tokens) p tree.old }
+    ensures { Grows (Tokens tokens.entry) tree p result 0 (λ s n q. spec.eat_while (flat n) s Q.of (spec.turns (flat n) s q) q) }
+{
+    let mut now = p;
+    while asked::<Q>(tokens, now) {
+        now = eat(tokens, tree, now)?;
+    }
+    Ok(now)
+}
+
+pub fn trivia(tokens: &[u32], tree: &mut [u32], p: Parser) -> Result<Parser, Refused>
     requires { Somehow (Tokens tokens) p tree.old }
     ensures { Grows (Tokens tokens.entry) tree p result 0 (λ s n. spec.trivia (flat n) s) }
 {
-    let mut now = p;
-    while more_trivia(tokens, now) {
-        let eaten = eat(tokens, tree, now);
-        let Step::Went(behind) = eaten else {
-            return eaten;
-        };
-        now = behind;
-    }
-    Step::Went(now)
+    eat_while::<Trivia>(tokens, tree, p)
 }
 
 // The first character of a Word, or of what is left of one, becomes a leaf.
-pub fn single_char(tokens: &[u32], tree: &mut [u32], p: Parser, word: &[u8]) -> Step
+pub fn single_char(
+    tokens: &[u32],
+    tree: &mut [u32],
+    p: Parser,
+    word: &[u8],
+) -> Result<Parser, Refused>
     requires { AtWord tokens p × Somehow (LeftOf tokens word p) p tree.old }
     ensures { Grows (LeftOf tokens.entry word.entry p) tree p result 1 (λ s n. spec.single_char (flat n) s) }
 {
     let size = char_len(word);
     let start = p.lexer.rest_start(tokens);
-    let written = p.leaf(tree, SyntaxKind::TOKEN_WORD, start, size as u32);
-    let Step::Went(leafed) = written else {
-        return written;
-    };
-    Step::Went(leafed.with_lexer(leafed.lexer.consume_utf8_bytes(tokens, size)))
+    let leafed = p.leaf(tree, SyntaxKind::TokenWord, start, size as u32)?;
+    Ok(leafed.with_lexer(leafed.lexer.consume_utf8_bytes(tokens, size)))
 }
 
 // Whether a Word is next.
@@ -103,7 +110,12 @@ pub fn word_next(tokens: &[u32], p: Parser) -> bool
 }
 
 // One character of a Word.
-pub fn word_character(text: &[u8], tokens: &[u32], tree: &mut [u32], p: Parser) -> Step
+pub fn word_character(
+    text: &[u8],
+    tokens: &[u32],
+    tree: &mut [u32],
+    p: Parser,
+) -> Result<Parser, Refused>
     requires { AtWord tokens p × Somehow (Texts text tokens) p tree.old }
     ensures { Grows (Texts text.entry tokens.entry) tree p result 1 (λ s n. spec.single_char (flat n) s) }
 {
@@ -111,17 +123,16 @@ pub fn word_character(text: &[u8], tokens: &[u32], tree: &mut [u32], p: Parser) 
 }
 
 // A node of a kind with one token in it.
-pub fn one_in(tokens: &[u32], tree: &mut [u32], p: Parser, kind: u32) -> Step
+pub fn one_in(
+    tokens: &[u32],
+    tree: &mut [u32],
+    p: Parser,
+    kind: SyntaxKind,
+) -> Result<Parser, Refused>
     requires { There tokens p × Somehow (Tokens tokens) p tree.old }
-    ensures { Grows (Tokens tokens.entry) tree p result 1 (λ s n. spec.one_in (flat n) s kind) }
+    ensures { Grows (Tokens tokens.entry) tree p result 1 (λ s n. spec.one_in (flat n) s (number_of kind)) }
 {
-    let opened = p.start_node(tree, kind);
-    let Step::Went(begun) = opened else {
-        return opened;
-    };
-    let eaten = eat(tokens, tree, begun);
-    let Step::Went(read) = eaten else {
-        return eaten;
-    };
+    let begun = p.start_node(tree, kind)?;
+    let read = eat(tokens, tree, begun)?;
     read.finish_node(tree, kind, p.builder.frame())
 }

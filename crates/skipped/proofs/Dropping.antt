@@ -1,4 +1,5 @@
 -- A token is dropped: its row stands behind those that were there, and nothing of the token is left to read. Assumes nothing.
+use Rattle.std.specs.Prelude.{Ok}
 use mathlib.Core.Path.{◌≡◌, refl}
 use mathlib.Core.List.{List}
 use Prim.Native.Nat.{ℕ, ◌<◌}
@@ -16,7 +17,6 @@ use Rattle.state.specs.Stands.{Buffers, pos_of}
 use Rattle.state.specs.Contract.{Ready, Left, buffers}
 use Rattle.skipped.specs.Body.{RowFree, Dropped, dropping}
 use Rattle.state.specs.declared.Parser.{Parser}
-use Rattle.state.specs.declared.Step.TheVariants.{Went}
 use Rattle.state.proofs.Left.{remains}
 use Rattle.state.proofs.Walk.{Call, passing}
 
@@ -51,7 +51,7 @@ module _ {t : Tables} {reason : ℕ} {p q : Parser} {tree notes after : List ℕ
 pub drops : {t : Tables} {reason : ℕ} {p q : Parser} {tree notes after : List ℕ} {lift : ℕ} → Dropped reason p notes q after
     → p.lexer.token < token_count t.tokens
     → Call t (λ n d. drop_next (flat n) (source_of t) reason) lift (λ u. Left t 1 p (buffers tree notes) u (buffers tree after))
-    p (buffers tree notes) (Went q) (buffers tree after)
+    p (buffers tree notes) (Ok q) (buffers tree after)
 drops {tree = tree} done there = record {
   is = λ ready d h. dropped-is done ready there (length tree);
   gone = λ ready. rw done.is (dropped-left done ready there);

@@ -1,8 +1,10 @@
 -- The loop over a skipped body: its turns are those of any loop that eats, and it is no deeper nested than was read. Assumes nothing.
+use Rattle.std.specs.Prelude.{Ok, Err}
+use Rattle.syntax.specs.declared.refusal.Refused.{Refused}
 use mathlib.Core.Path.{◌≡◌, refl, sym, ◌∙◌}
 use mathlib.Core.Bool.{Bool, true, false, not, cond, ◌&&◌}
 use mathlib.Core.List.{List, [], ◌∷◌}
-use mathlib.Core.Option.{none, some}
+use Rattle.std.specs.Prelude.{None as none, Some as some}
 use Prim.Native.Nat.{ℕ, zero, suc, ◌+◌, ◌-◌, ◌^◌, ◌≤◌, ◌<◌}
 use native.Mathlib.Omega.{arith}
 use lib.Dec.{eqb}
@@ -18,16 +20,14 @@ use Rattle.rules.specs.Tables.{token_count, kind_at}
 use Rattle.rules.specs.Token.{EndIf}
 use Rattle.lexer.specs.Reading.{cursor_of}
 use Rattle.lexer.proofs.Laws.{peek-some, peek-none, left-some}
-use Rattle.state.specs.Stands.{pos_of}
+use Rattle.state.specs.Stands.{Step, pos_of}
 use Rattle.state.specs.Contract.{Ready, Ran, RuleOf, Known, left_of, buffers}
 use Rattle.skipped.specs.Body.{Dropped, in_body, nested_behind}
 use Rattle.state.specs.declared.Parser.{Parser}
-use Rattle.state.specs.declared.Step.{Step}
-use Rattle.state.specs.declared.Step.TheVariants.{Went}
 use Rattle.skipped.proofs.Dropping.{drops}
 use Rattle.routines.proofs.Eating.{asked-there}
 use Rattle.state.proofs.Loop.{Far, OneTurn, far_begins, one-turn, less_left, far_goes_on}
-use Rattle.state.proofs.Walk.{Rule, line, turns, stops, arrives, hands_on, ran, ran-by, ran-less, Stopped}
+use Rattle.state.proofs.Walk.{Rule, line, turns, stops, arrives, hands_on, ran, ran-by, ran-less, HandsOn, handed}
 
 -- a token of the body is eaten, whatever it is, and the nesting is what it leaves
 of_body : {A : Type 0} (end-if outer an-if : Bool) (nested : ℕ) (ends : A) (goes : ℕ → A) → not (end-if && outer) ≡ true
@@ -110,7 +110,7 @@ module _ {tokens : List ℕ} {p : Parser} {tree notes : List ℕ} {nested : ℕ}
 
       module _ {r : Step} {last : List ℕ} (ate : Ran (Sees tokens) 1 (λ s n. eat (flat n) s) q (buffers after notes) r (buffers last notes)) where
         -- the code computed the nesting from the cell that it read
-        pub skipping_goes_on : {z : Parser} {deep cell : ℕ} → deep ≡ nested_behind nested cell → cell ≡ kind → r ≡ Went z
+        pub skipping_goes_on : {z : Parser} {deep cell : ℕ} → deep ≡ nested_behind nested cell → cell ≡ kind → r ≡ Ok z
             → Skipping tokens p tree notes deep z last
         skipping_goes_on deep_is cell-is went_on = rw (deep_is, cell-is) (record {
           far = λ t seen ready. far_goes_on (turn t seen ready) (ran seen ate) went_on;
@@ -126,14 +126,15 @@ module _ {tokens : List ℕ} {p : Parser} {tree notes : List ℕ} {nested : ℕ}
             one_deeper false true = omega arith
             one_deeper false false = omega arith
 
-        pub skipping_less : {z : Parser} → Known (Sees tokens) p (buffers tree notes) → r ≡ Went z
+        pub skipping_less : {z : Parser} → Known (Sees tokens) p (buffers tree notes) → r ≡ Ok z
             → left tokens (cursor_of z.lexer) < left tokens (cursor_of q.lexer)
         skipping_less k went_on =
             let less = less_left (turn k.t k.seen k.ready) (ran k.seen ate) went_on in
             rw (← k.seen) (omega arith)
 
-        pub skipping_stops : {any : List ℕ} → Stopped r → Ran (Sees tokens) 0 skipping p (buffers tree notes) r (buffers any notes)
-        skipping_stops st = ran-by (λ t seen ready. stops (turn t seen ready).walk (ran seen ate) st)
+        pub skipping_stops : {any : List ℕ} {e : Refused} {s : Step} → r ≡ Err e → HandsOn s e
+            → Ran (Sees tokens) 0 skipping p (buffers tree notes) s (buffers any notes)
+        skipping_stops st hands = rw (handed hands) (ran-by (λ t seen ready. stops (turn t seen ready).walk (ran seen ate) st))
 
     -- the next token is the \fi
     module _ (no : answer ≡ false) (there : q.lexer.token < token_count tokens) where
@@ -154,7 +155,7 @@ module _ {tokens : List ℕ} {p : Parser} {tree notes : List ℕ} {nested : ℕ}
           rw (next, the_end (eqb EndIf (kind_at tokens q.lexer.token)) (eqb nested 0) _ _ _ not_in)
 
       pub skipping_closes : {z : Parser} {last : List ℕ} → Dropped reason_closer q notes z last
-          → Ran (Sees tokens) 0 skipping p (buffers tree notes) (Went z) (buffers after last)
+          → Ran (Sees tokens) 0 skipping p (buffers tree notes) (Ok z) (buffers after last)
       skipping_closes done = ran-less (ran-by (λ t seen ready.
           let f = e.far t seen ready in
           let here : q.lexer.token < token_count t.tokens = rw seen there in
@@ -170,5 +171,5 @@ module _ {tokens : List ℕ} {p : Parser} {tree notes : List ℕ} {nested : ℕ}
         let next : peek t.tokens (cursor_of q.lexer) ≡ none = rw seen (peek-none tokens (cursor_of q.lexer) none_left) in
         rw next
 
-    pub skipping_ends : Ran (Sees tokens) 0 skipping p (buffers tree notes) (Went q) (buffers after notes)
+    pub skipping_ends : Ran (Sees tokens) 0 skipping p (buffers tree notes) (Ok q) (buffers after notes)
     skipping_ends = ran-by (λ t seen ready. let f = e.far t seen ready in arrives (turns f.walk (ended t seen f.fuel)))

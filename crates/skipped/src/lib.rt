@@ -6,21 +6,23 @@ ghost use Rattle.rules.specs.Flat.{flat};
 ghost use Rattle.rules.specs.Cursor.{peek};
 ghost use Rattle.rules.specs.Position.{asked};
 ghost use Rattle.lexer.specs.Reading.{cursor_of};
+ghost use Rattle.syntax.specs.Rows.{reason_number};
+ghost use Rattle.syntax.specs.SyntaxKind.{number_of};
 ghost use Rattle.rules.specs.Routines as spec;
 ghost use Rattle.state.specs.Contract.{Goes, Known, There, Tokens, lent};
 ghost use Rattle.skipped.specs.Body.{Dropped, RowFree, in_body, nested_behind};
 
 use builder::drop_token;
 use items::is_if;
-use lexer::{Column, Peeked, cell};
+use lexer::{Column, cell};
 use routines::eat;
-use state::{Parser, Step};
-use syntax::{Reason, Token};
+use state::Parser;
+use syntax::{Reason, Refused, SyntaxKind, Token};
 
 // The next token is dropped.
-fn drop_next(dropped: &mut [u32], p: Parser, reason: u32) -> Parser
+fn drop_next(dropped: &mut [u32], p: Parser, reason: Reason) -> Parser
     requires { RowFree p dropped.old }
-    ensures { Dropped reason p dropped.old result dropped.new }
+    ensures { Dropped (reason_number reason) p dropped.old result dropped.new }
 {
     drop_token(
         dropped,
@@ -38,11 +40,9 @@ fn drop_next(dropped: &mut [u32], p: Parser, reason: u32) -> Parser
 fn more_body(tokens: &[u32], p: Parser, nested: usize) -> bool
     ensures { result ≡ asked (in_body nested) (peek tokens.now (cursor_of p.lexer)) }
 {
-    let peeked = p.lexer.peek(tokens);
-    let Peeked::Kind(kind) = peeked else {
-        return false;
-    };
-    kind != Token::END_IF || nested != 0
+    p.lexer
+        .peek(tokens)
+        .is_some_and(|kind| kind != Token::END_IF || nested != 0)
 }
 
 // The nesting behind a token of the body: any \if nests.
@@ -60,7 +60,12 @@ fn nested_behind(kind: u32, nested: usize) -> usize
 }
 
 // Up to the \fi of nesting 0, which is dropped.
-fn eat_body_of_ifs(tokens: &[u32], tree: &mut [u32], dropped: &mut [u32], p: Parser) -> Step
+fn eat_body_of_ifs(
+    tokens: &[u32],
+    tree: &mut [u32],
+    dropped: &mut [u32],
+    p: Parser,
+) -> Result<Parser, Refused>
     requires { Known (Tokens tokens) p (lent tree dropped) }
     ensures { Goes (Tokens tokens.entry) tree dropped p result 0 (λ s n q. spec.eat_body_of_ifs (flat n) s (spec.turns (flat n) s q) 0 q) }
 {
@@ -68,17 +73,12 @@ fn eat_body_of_ifs(tokens: &[u32], tree: &mut [u32], dropped: &mut [u32], p: Par
     let mut nested: usize = 0;
     while more_body(tokens, now, nested) {
         nested = nested_behind(cell(tokens, now.lexer.token, Column::KIND), nested);
-        let eaten = eat(tokens, tree, now);
-        let Step::Went(behind) = eaten else {
-            return eaten;
-        };
-        now = behind;
+        now = eat(tokens, tree, now)?;
     }
-    let peeked = now.lexer.peek(tokens);
-    let Peeked::Kind(_) = peeked else {
-        return Step::Went(now);
+    let Some(_) = now.lexer.peek(tokens) else {
+        return Ok(now);
     };
-    Step::Went(drop_next(dropped, now, Reason::CLOSER))
+    Ok(drop_next(dropped, now, Reason::Closer))
 }
 
 // \iffalse or its like, its body and its \fi, in a node of this kind.
@@ -87,19 +87,13 @@ pub fn skipped_body(
     tree: &mut [u32],
     dropped: &mut [u32],
     p: Parser,
-    kind: u32,
-) -> Step
+    kind: SyntaxKind,
+) -> Result<Parser, Refused>
     requires { There tokens p × Known (Tokens tokens) p (lent tree dropped) }
-    ensures { Goes (Tokens tokens.entry) tree dropped p result 1 (λ s n. spec.skipped_body (flat n) s kind) }
+    ensures { Goes (Tokens tokens.entry) tree dropped p result 1 (λ s n. spec.skipped_body (flat n) s (number_of kind)) }
 {
-    let opened = p.start_node(tree, kind);
-    let Step::Went(begun) = opened else {
-        return opened;
-    };
-    let inside = drop_next(dropped, begun, Reason::OPENER);
-    let skipped = eat_body_of_ifs(tokens, tree, dropped, inside);
-    let Step::Went(read) = skipped else {
-        return skipped;
-    };
+    let begun = p.start_node(tree, kind)?;
+    let inside = drop_next(dropped, begun, Reason::Opener);
+    let read = eat_body_of_ifs(tokens, tree, dropped, inside)?;
     read.finish_node(tree, kind, p.builder.frame())
 }

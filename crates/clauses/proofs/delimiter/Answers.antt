@@ -2,7 +2,7 @@
 use mathlib.Core.Path.{◌≡◌, refl, sym, ap, ◌∙◌}
 use mathlib.Core.Bool.{true, false}
 use mathlib.Core.List.{List}
-use mathlib.Core.Option.{Option, some}
+use Rattle.std.specs.Prelude.{Option, Some as some}
 use Prim.Native.Nat.{ℕ}
 use lib.Dec.{eqb}
 use borrow.Author.Tests.{eq-eqb, ne_eqb}
@@ -14,9 +14,7 @@ use Rattle.rules.specs.Position.{Source}
 use Rattle.rules.specs.Routines as spec
 use Rattle.rules.specs.SyntaxKind.{TokenCommandSym}
 use Rattle.rules.specs.Token.{Generic, Dollar, Word}
-use Rattle.lexer.specs.Reading.{cursor_of, peeked_of}
-use Rattle.lexer.specs.declared.cursor.Peeked.{Peeked}
-use Rattle.lexer.specs.declared.cursor.Peeked.TheVariants.{Kind}
+use Rattle.lexer.specs.Reading.{cursor_of}
 use Rattle.state.specs.Contract.{RuleOf, Slice, Somehow, Texts, There, Tokens}
 use Rattle.state.specs.Stands.{Here}
 use Rattle.state.specs.declared.Parser.{Parser}
@@ -53,64 +51,63 @@ module _ (kind : ℕ) where
 
 -- ---- what the code was told
 
-next-is : (tokens : List ℕ) (c : Cursor) {answer : Peeked} {kind : ℕ} → peek tokens c ≡ peeked_of answer → answer ≡ Kind kind
-    → peek tokens c ≡ some kind
-next-is tokens c told is = told ∙ ap peeked_of is
+next-is : (tokens : List ℕ) (c : Cursor) {answer next : Option ℕ} → answer ≡ peek tokens c → answer ≡ next → peek tokens c ≡ next
+next-is tokens c told is = sym told ∙ is
 
 -- so a routine may eat it
-there : (text tokens : Slice) {p : Parser} {tree : List ℕ} {answer : Peeked} {kind : ℕ} → peek tokens.now (cursor_of p.lexer) ≡ peeked_of answer
-    → answer ≡ Kind kind → Somehow (Texts text tokens) p tree → There tokens p × Somehow (Tokens tokens) p tree
+there : (text tokens : Slice) {p : Parser} {tree : List ℕ} {answer : Option ℕ} {kind : ℕ} → answer ≡ peek tokens.now (cursor_of p.lexer)
+    → answer ≡ some kind → Somehow (Texts text tokens) p tree → There tokens p × Somehow (Tokens tokens) p tree
 there text tokens told is s = ((peeked _ _ told is).there, seen_less (λ t seen. seen.1) s)
 
 -- ---- the arms
 
 pub returns-in_default : goal.returns-in_default
 unfolding spec.delimiter
-returns-in_default c notes = arm_stays (λ t seen. seen.1) of (c.peek-peeked.ensures ∙ ap peeked_of c.in_default.is) (λ s n q. refl)
+returns-in_default c notes = arm_stays (λ t seen. seen.1) of (next-is _ _ c.peek.ensures c.in_default.is) (λ s n q. refl)
 
 -- a command's name that is not the parser's own
 pub eat_as-requires : goal.eat_as-requires
-eat_as-requires c = there c.args.text c.args.tokens c.peek-peeked.ensures c.in-Kind.is c.requires
+eat_as-requires c = there c.args.text c.args.tokens c.peek.ensures c.in-Some.is c.requires
 
 pub returns-then-kind-eq-GENERIC : goal.returns-then-kind-eq-GENERIC
 unfolding spec.delimiter
 returns-then-kind-eq-GENERIC c notes =
-    arm_ran (λ t seen. seen.1) of (next-is _ _ c.peek-peeked.ensures c.in-Kind.is) (is-generic c.in-Kind.kind (eq-eqb _ _ c.if-kind-eq-GENERIC.true))
+    arm_ran (λ t seen. seen.1) of (next-is _ _ c.peek.ensures c.in-Some.is) (is-generic c.in-Some.kind (eq-eqb _ _ c.if-kind-eq-GENERIC.true))
     (ran-seeing (λ t seen. seen.1) (c.eat_as.ensures notes))
 
 pub returns-then-is_command_name : goal.returns-then-is_command_name
 unfolding spec.delimiter
 returns-then-is_command_name c notes =
-    arm_stays (λ t seen. seen.1) of (next-is _ _ c.peek-peeked.ensures c.in-Kind.is)
-    (is-command c.in-Kind.kind (ne_eqb _ _ c.if-kind-eq-GENERIC.false) (sym c.is_command_name.ensures ∙ c.if-is_command_name.true))
+    arm_stays (λ t seen. seen.1) of (next-is _ _ c.peek.ensures c.in-Some.is)
+    (is-command c.in-Some.kind (ne_eqb _ _ c.if-kind-eq-GENERIC.false) (sym c.is_command_name.ensures ∙ c.if-is_command_name.true))
 
 -- a dollar
 pub returns-then-kind-eq-DOLLAR : goal.returns-then-kind-eq-DOLLAR
 unfolding spec.delimiter
 returns-then-kind-eq-DOLLAR c notes =
-    let plain : Plain c.in-Kind.kind = (ne_eqb _ _ c.if-kind-eq-GENERIC.false, sym c.is_command_name.ensures ∙ c.if-is_command_name.false) in
-    arm_stays (λ t seen. seen.1) of (next-is _ _ c.peek-peeked.ensures c.in-Kind.is)
-    (is-dollar c.in-Kind.kind plain (eq-eqb _ _ c.if-kind-eq-DOLLAR.true))
+    let plain : Plain c.in-Some.kind = (ne_eqb _ _ c.if-kind-eq-GENERIC.false, sym c.is_command_name.ensures ∙ c.if-is_command_name.false) in
+    arm_stays (λ t seen. seen.1) of (next-is _ _ c.peek.ensures c.in-Some.is)
+    (is-dollar c.in-Some.kind plain (eq-eqb _ _ c.if-kind-eq-DOLLAR.true))
 
 -- a Word
 pub word_character-requires : goal.word_character-requires
 word_character-requires c =
-    let next = peeked _ _ c.peek-peeked.ensures c.in-Kind.is in ((next.there, next.is ∙ c.if-kind-eq-WORD.true), c.requires)
+    let next = peeked _ _ c.peek.ensures c.in-Some.is in ((next.there, next.is ∙ c.if-kind-eq-WORD.true), c.requires)
 
 pub returns-then-kind-eq-WORD : goal.returns-then-kind-eq-WORD
 unfolding spec.delimiter
 returns-then-kind-eq-WORD c notes =
-    let plain : Plain c.in-Kind.kind = (ne_eqb _ _ c.if-kind-eq-GENERIC.false, sym c.is_command_name.ensures ∙ c.if-is_command_name.false) in
-    let word = is_word c.in-Kind.kind plain (ne_eqb _ _ c.if-kind-eq-DOLLAR.false) (eq-eqb _ _ c.if-kind-eq-WORD.true) in
-    arm_ran (λ t seen. seen.1) of (next-is _ _ c.peek-peeked.ensures c.in-Kind.is) word (c.word_character.ensures notes)
+    let plain : Plain c.in-Some.kind = (ne_eqb _ _ c.if-kind-eq-GENERIC.false, sym c.is_command_name.ensures ∙ c.if-is_command_name.false) in
+    let word = is_word c.in-Some.kind plain (ne_eqb _ _ c.if-kind-eq-DOLLAR.false) (eq-eqb _ _ c.if-kind-eq-WORD.true) in
+    arm_ran (λ t seen. seen.1) of (next-is _ _ c.peek.ensures c.in-Some.is) word (c.word_character.ensures notes)
 
 -- any other token
 pub eat-requires : goal.eat-requires
-eat-requires c = there c.args.text c.args.tokens c.peek-peeked.ensures c.in-Kind.is c.requires
+eat-requires c = there c.args.text c.args.tokens c.peek.ensures c.in-Some.is c.requires
 
 pub returns : goal.returns
 unfolding spec.delimiter
 returns c notes =
-    let plain : Plain c.in-Kind.kind = (ne_eqb _ _ c.if-kind-eq-GENERIC.false, sym c.is_command_name.ensures ∙ c.if-is_command_name.false) in
-    let other = is_other c.in-Kind.kind plain (ne_eqb _ _ c.if-kind-eq-DOLLAR.false) (ne_eqb _ _ c.if-kind-eq-WORD.false) in
-    arm_ran (λ t seen. seen.1) of (next-is _ _ c.peek-peeked.ensures c.in-Kind.is) other (ran-seeing (λ t seen. seen.1) (c.eat.ensures notes))
+    let plain : Plain c.in-Some.kind = (ne_eqb _ _ c.if-kind-eq-GENERIC.false, sym c.is_command_name.ensures ∙ c.if-is_command_name.false) in
+    let other = is_other c.in-Some.kind plain (ne_eqb _ _ c.if-kind-eq-DOLLAR.false) (ne_eqb _ _ c.if-kind-eq-WORD.false) in
+    arm_ran (λ t seen. seen.1) of (next-is _ _ c.peek.ensures c.in-Some.is) other (ran-seeing (λ t seen. seen.1) (c.eat.ensures notes))

@@ -8,4 +8,4 @@ returns-in_default c s notes = rw c.in_default.is (c.start_node.ensures notes)
 
 pub returns : goal.returns
 unfolding start_around
-returns c s notes = rw c.in-At.is (c.wrap.ensures notes)
+returns c s notes = rw c.in-Some.is (c.wrap.ensures notes)

@@ -17,35 +17,35 @@ pub nested_behind-nested-requires : goal.nested_behind-nested-requires
 nested_behind-nested-requires c = skipping_in c.loop-nested.invariant c.more_body.ensures c.loop-nested-test.true c.cell.ensures c.requires
 
 -- it is eaten
-pub eat-eaten-requires : goal.eat-eaten-requires
-eat-eaten-requires c =
+pub eat-requires : goal.eat-requires
+eat-requires c =
     let there = skipping_there c.loop-nested.invariant c.more_body.ensures c.loop-nested-test.true in
     (there, known-somehow (skipping_ready c.loop-nested.invariant c.requires))
 
-pub returns-in_default : goal.returns-in_default
-returns-in_default c =
-    skipping_stops c.loop-nested.invariant c.more_body.ensures c.loop-nested-test.true (c.eat-eaten.ensures _) ((_, (_, tt)), c.in_default.is)
+pub returns-in_err-now : goal.returns-in_err-now
+returns-in_err-now c =
+    skipping_stops c.loop-nested.invariant c.more_body.ensures c.loop-nested-test.true (c.eat.ensures _) c.in_err-now.was c.from_residual.ensures
 
 pub loop-nested-smaller : goal.loop-nested-smaller
 loop-nested-smaller c =
-    skipping_less c.loop-nested.invariant c.more_body.ensures c.loop-nested-test.true (c.eat-eaten.ensures _) c.requires c.in-Went.is
+    skipping_less c.loop-nested.invariant c.more_body.ensures c.loop-nested-test.true (c.eat.ensures _) c.requires c.in_ok-now.was
 
 pub loop-nested-preserved : goal.loop-nested-preserved
 loop-nested-preserved c =
-    skipping_goes_on c.loop-nested.invariant c.more_body.ensures c.loop-nested-test.true (c.eat-eaten.ensures _) c.nested_behind-nested.ensures
-    c.cell.ensures c.in-Went.is
+    skipping_goes_on c.loop-nested.invariant c.more_body.ensures c.loop-nested-test.true (c.eat.ensures _) c.nested_behind-nested.ensures
+    c.cell.ensures c.in_ok-now.was
 
 -- there is nothing
-pub returns-in_default-peeked : goal.returns-in_default-peeked
-returns-in_default-peeked c = skipping_ends c.loop-nested.invariant (ended _ _ c.peek-peeked.ensures c.in_default-peeked.is)
+pub returns-in_default : goal.returns-in_default
+returns-in_default c = skipping_ends c.loop-nested.invariant (ended _ _ c.peek.ensures c.in_default.is)
 
 -- there is the \fi
 pub drop_next-requires : goal.drop_next-requires
 drop_next-requires c =
     let k = skipping_ready c.loop-nested.invariant c.requires in
-    row_free k.ready (rw k.seen (peeked _ _ c.peek-peeked.ensures c.in-Kind.is).there)
+    row_free k.ready (rw k.seen (peeked _ _ c.peek.ensures c.in-Some.is).there)
 
 pub returns : goal.returns
 returns c =
-    let there = (peeked _ _ c.peek-peeked.ensures c.in-Kind.is).there in
+    let there = (peeked _ _ c.peek.ensures c.in-Some.is).there in
     skipping_closes c.loop-nested.invariant c.more_body.ensures c.loop-nested-test.false there c.drop_next.ensures

@@ -15,37 +15,37 @@ use Rattle.state.specs.Contract.{LeftOf, buffers}
 use Rattle.state.specs.Stands.{pos_of}
 use Rattle.routines.proofs.Leaves.{here_of, small_token, seen_less, onward_char, single_char_is, leaf-then, leaf-stops, leaf-goes_on, same-lexer}
 use Rattle.routines.proofs.tokens.single_char.Goals as goal
-use Rattle.routines.proofs.tokens.single_char.Goals.{After-leaf-written}
+use Rattle.routines.proofs.tokens.single_char.Goals.{After-leaf}
 
 -- a character has four bytes at most
 pub overflow_cast-size : goal.overflow_cast-size
 overflow_cast-size c = omega (arith, char_four c.args.word.now, c.char_len-size.ensures)
 
 -- the leaf that the code writes
-abbrev leaf : After-leaf-written → Leaf
+abbrev leaf : After-leaf → Leaf
 leaf c = record { token = c.args.p.lexer.token; kind = TokenWord; start = c.rest_start-start.result; size = c.char_len-size.result }
 
 -- where the cursor goes
-abbrev onto : After-leaf-written → Cursor → Cursor
+abbrev onto : After-leaf → Cursor → Cursor
 onto c = consumed c.args.tokens.now c.char_len-size.result
 
 -- both are the rule's
-leaf-is : (c : After-leaf-written) (t : Tables) → LeftOf c.args.tokens c.args.word c.args.p t → (notes : List ℕ) (n : ℕ)
+leaf-is : (c : After-leaf) (t : Tables) → LeftOf c.args.tokens c.args.word c.args.p t → (notes : List ℕ) (n : ℕ)
     → single_char (flat n) (source_of t) (pos_of c.args.p (buffers c.args.tree.now notes))
     ≡ leaf-then (leaf c) (onto c) n (pos_of c.args.p (buffers c.args.tree.now notes))
 leaf-is c t seen notes =
     single_char_is t _ _ c.args.p (buffers c.args.tree.now notes) _ _ seen.0 seen.1 c.rest_start-start.ensures c.char_len-size.ensures
 
-pub returns-in_default : goal.returns-in_default
-returns-in_default c =
-    let wrote = (goal.at.returns-in_default c).After-leaf-written in
+pub returns-in_err-leafed : goal.returns-in_err-leafed
+returns-in_err-leafed c =
+    let wrote = (goal.at.returns-in_err-leafed c).After-leaf in
     let few = small_token (seen_less (λ t seen. seen.0) c.requires.1) in
-    leaf-stops (leaf wrote) (onto wrote) (leaf-is wrote) (λ notes. c.leaf-written.ensures notes (le_refl _) few) ((_, (_, tt)), c.in_default.is)
+    leaf-stops (leaf wrote) (onto wrote) (leaf-is wrote) (λ notes. c.leaf.ensures notes (le_refl _) few) c.in_err-leafed.was c.from_residual.ensures
 
 pub consume_utf8_bytes-requires : goal.consume_utf8_bytes-requires
 consume_utf8_bytes-requires c =
     let seen = seen_less (λ t seen. seen.0) c.requires.1 in
-    rw (same-lexer (c.leaf-written.ensures [] (le_refl _) (small_token seen)) c.in-Went.is) (here_of seen c.requires.0.0)
+    rw (same-lexer (c.leaf.ensures [] (le_refl _) (small_token seen)) c.in_ok-leafed.was) (here_of seen c.requires.0.0)
 
 -- the code counts in what it was handed, the rule in its tables
 counted : (t : Tables) (tokens word : List ℕ) (was is : Lexer) (size : ℕ)
@@ -56,12 +56,12 @@ counted t tokens word was is size same seen word-is size_is = rw (same, seen, �
 
 pub returns : goal.returns
 returns c =
-    let wrote = (goal.at.returns c).After-leaf-written in
+    let wrote = (goal.at.returns c).After-leaf in
     let few = small_token (seen_less (λ t seen. seen.0) c.requires.1) in
     let given = c.args in
     let moves = c.consume_utf8_bytes.ensures in
-    let same = same-lexer (c.leaf-written.ensures [] (le_refl _) few) c.in-Went.is in
-    leaf-goes_on (leaf wrote) (onto wrote) (leaf-is wrote) (λ notes. c.leaf-written.ensures notes (le_refl _) few) _ c.in-Went.is
-    c.with_lexer.ensures moves c.leaf-written.auto.tree
+    let same = same-lexer (c.leaf.ensures [] (le_refl _) few) c.in_ok-leafed.was in
+    leaf-goes_on (leaf wrote) (onto wrote) (leaf-is wrote) (λ notes. c.leaf.ensures notes (le_refl _) few) _ c.in_ok-leafed.was
+    c.with_lexer.ensures moves c.leaf.auto.tree
     (λ t notes seen ready. onward_char ready (rw seen.0 c.requires.0.0) (rw seen.0 c.requires.0.1)
-    (moves ∙ counted t given.tokens.now given.word.now given.p.lexer c.in-Went.leafed.lexer _ same seen.0 seen.1 c.char_len-size.ensures))
+    (moves ∙ counted t given.tokens.now given.word.now given.p.lexer c.in_ok-leafed.leafed.lexer _ same seen.0 seen.1 c.char_len-size.ensures))
