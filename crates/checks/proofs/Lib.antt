@@ -1,3 +1,3 @@
--- What an answer tells the caller, and laws for the proofs of the functions.
+-- What an answer tells the caller, and a law for the searches over rows.
 pub mod Answers
 pub mod Rows

@@ -1,27 +1,25 @@
--- A loop over rows that answers the first that is not right, for whatever the tables are that it does not look at. Before each turn the rows before
--- its row are right. Assumes nothing.
-use Prim.Native.Nat.{ℕ, ◌+◌, ◌≤◌, ◌<◌}
-use mathlib.Core.Bool.{Bool, true, false, not}
+-- A search over rows for the first that is not right answers as the rule does. Assumes nothing.
+use Prim.Native.Nat.{ℕ, zero, suc, ◌+◌, ◌≤◌, ◌<◌}
+use mathlib.Core.Bool.{Bool, true, false}
 use mathlib.Core.Path.{◌≡◌}
 use native.Mathlib.Omega.{arith}
-use Rattle.rules.proofs.Asked.{missed, met}
-use Rattle.rules.proofs.Checks.{Passed, passes, found, all_passed}
-use Rattle.checks.specs.Checked.{Judged, FirstBad}
-use Rattle.checks.specs.declared.bad.Bad.TheVariants.{Row, Nowhere}
+use Rattle.std.specs.Prelude.{Option, None as none, Some as some, MatchOption}
+use Rattle.rules.specs.Checks.{first_bad}
+use Rattle.rules.proofs.Checks.{Passed, none_passed, passes, found, all_passed}
 
-module _ {Unseen : Type 0} where
-  pub record RightBefore (right : Unseen → ℕ → Bool) (count row : ℕ) : Type 0 where
-    pub few : row ≤ count
-    pub passed : (unseen : Unseen) → Passed (right unseen) count row
+module _ (right : ℕ → Bool) (count : ℕ) where
+  abbrev RightBefore : ℕ → Type 0
+  RightBefore row = (k : ℕ) → 0 ≤ k → k < row → right k ≡ true
 
-  module _ {right : Unseen → ℕ → Bool} {count : ℕ} where
-    module _ {row : ℕ} (before : RightBefore right count row) where
-      pub ends : count ≤ row → FirstBad right count Nowhere
-      ends all = record { is = λ unseen. all_passed (before.passed unseen) all }
+  passed : (row : ℕ) → row ≤ count → RightBefore row → Passed right count row
+  passed zero few met = none_passed right count
+  passed (suc row) few met =
+      let next : suc row ≡ row + 1 = omega arith in
+      rw next (passes (passed row (omega arith) (λ k low high. met k low (omega arith))) (omega arith) (met row (omega arith) (omega arith)))
 
-      module _ (there : row < count) {answer : Bool} (judged : Judged right row answer) where
-        pub finds : not answer ≡ true → FirstBad right count (Row row)
-        finds bad = record { is = λ unseen. found (before.passed unseen) there (missed (judged.is unseen) bad) }
-
-        pub goes_on : not answer ≡ false → RightBefore right count (row + 1)
-        goes_on fine = record { few = omega arith; passed = λ unseen. passes (before.passed unseen) there (met (judged.is unseen) fine) }
+  -- where `find` over the rows finds none, or one
+  pub first : (r : Option ℕ)
+      → MatchOption r (RightBefore count) (λ row. (0 ≤ row) × (row < count) × (right row ≡ false) × RightBefore row)
+      → first_bad right count 0 ≡ r
+  first none met = all_passed (passed count (omega arith) met) (omega arith)
+  first (some row) (low, there, bad, met) = found (passed row (omega arith) met) there bad

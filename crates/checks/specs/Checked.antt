@@ -1,39 +1,21 @@
--- How the answers of the code stand for the rules', case by case, and what a function promises that doesn't see every table.
-use Rattle.std.specs.Prelude.{ℕ, ◌+◌, ◌/◌, Bool, List, ◌≡◌, length}
-use Rattle.std.proofs.Math.Option.{Option, none, some}
-use Rattle.rules.specs.Checks.{Tables, Refusal, first_bad, word_right, token_right, shape_or_state_right}
+-- How the answers of the code stand for the rules', case by case, and the first of a table's rows that is not right.
+use Rattle.std.specs.Prelude.{ℕ, ◌+◌, ◌/◌, Bool, List, ◌≡◌, Result, Ok, Err, length}
+use Rattle.std.specs.Prelude.{Option, None as none, Some as some}
+use Rattle.rules.specs.Checks.{Refusal, first_bad, token_right, shape_or_state_right}
 use Rattle.rules.specs.Limits.{shape_width, state_width}
-use Rattle.checks.specs.declared.order.Checked.{Checked}
-use Rattle.checks.specs.declared.order.Checked.TheVariants as checked
-use Rattle.checks.specs.declared.bad.Bad.{Bad}
-use Rattle.checks.specs.declared.bad.Bad.TheVariants as bad
+use Rattle.syntax.specs.declared.refusal.Refused.{Refused}
+use Rattle.syntax.specs.Tables.{tables}
 
--- the four tables that come in, in the order of the code
-abbrev pub tables : List ℕ → List ℕ → List ℕ → List ℕ → Tables
-tables text tokens shapes states = record { text = text; tokens = tokens; shapes = shapes; states = states }
-
--- a number of refusal and a place, or none
-abbrev pub checked_of : Checked → Option Refusal
-checked_of checked.Fine = none
-checked_of (checked.Refused number place) = some (number, place)
-
--- the first row that is not right, or none
-abbrev pub bad_of : Bad → Option ℕ
-bad_of (bad.Row row) = some row
-bad_of bad.Nowhere = none
+-- what the checks come to: a number of refusal and a place, or none
+abbrev pub checked_of : Result Unit Refused → Option Refusal
+checked_of (Ok fine) = none
+checked_of (Err r) = some (r.number, r.place)
 
 -- ---- rows that are judged without a look at every table: the answer is the rule's for whatever the tables are that are not looked at
 
--- whether a row is right, and the first of so many that is not
-pub record Judged {Unseen : Type 0} (right : Unseen → ℕ → Bool) (row : ℕ) (r : Bool) : Type 0 where
-  pub is : (unseen : Unseen) → r ≡ right unseen row
-
-pub record FirstBad {Unseen : Type 0} (right : Unseen → ℕ → Bool) (count : ℕ) (r : Bad) : Type 0 where
-  pub is : (unseen : Unseen) → first_bad (right unseen) count 0 ≡ bad_of r
-
--- a Word's own bytes, without shapes and states
-abbrev pub word_row : List ℕ → List ℕ → List ℕ × List ℕ → ℕ → Bool
-word_row text tokens unseen = word_right (tables text tokens unseen.0 unseen.1)
+-- the first of so many rows that is not right
+pub record FirstBad {Unseen : Type 0} (right : Unseen → ℕ → Bool) (count : ℕ) (r : Option ℕ) : Type 0 where
+  pub is : (unseen : Unseen) → first_bad (right unseen) count 0 ≡ r
 
 -- token rows, without the states
 abbrev pub token_row : List ℕ → List ℕ → List ℕ → List ℕ → ℕ → Bool

@@ -1,10 +1,9 @@
 // What is checked before reading: refusals 1 to 4, each with its place.
 #![tactic(auto)]
 
-mod bad;
 mod limits;
 mod order;
 mod shapes;
 mod tokens;
 
-pub use order::{Checked, check};
+pub use order::check;

@@ -1,9 +1,9 @@
 // Refusal 1: a limit is passed, or a table isn't whole rows.
 ghost use Rattle.std.specs.Prelude.{◌≡◌, ◌<◌};
 ghost use Rattle.rules.specs.Checks.{whole_rows, within_limits};
-ghost use Rattle.checks.specs.Checked.{tables};
+ghost use Rattle.syntax.specs.Tables.{given};
 
-use syntax::Limits;
+use syntax::{Limits, Tables};
 
 // Whether a table is whole rows of so many numbers, at most so many of them.
 fn whole_rows(table: &[u32], width: usize, most: usize) -> bool
@@ -15,17 +15,11 @@ fn whole_rows(table: &[u32], width: usize, most: usize) -> bool
 
 // Whether no limit is passed and every table is whole rows.
 #[tactic(auto, unfolding(rules::specs::Checks::within_limits))]
-pub fn within_limits(text: &[u8], tokens: &[u32], shapes: &[u32], states: &[u32]) -> bool
-    ensures { result ≡ within_limits (tables text.now tokens.now shapes.now states.now) }
+pub fn within_limits(tables: &Tables<'_>) -> bool
+    ensures { result ≡ within_limits (given tables.entry) }
 {
-    if Limits::TEXT < text.len() {
-        return false;
-    }
-    if !whole_rows(tokens, Limits::TOKEN_WIDTH, Limits::TOKENS) {
-        return false;
-    }
-    if !whole_rows(shapes, Limits::SHAPE_WIDTH, Limits::SHAPES) {
-        return false;
-    }
-    whole_rows(states, Limits::STATE_WIDTH, Limits::STATES)
+    tables.text.len() <= Limits::TEXT
+        && whole_rows(tables.tokens, Limits::TOKEN_WIDTH, Limits::TOKENS)
+        && whole_rows(tables.shapes, Limits::SHAPE_WIDTH, Limits::SHAPES)
+        && whole_rows(tables.states, Limits::STATE_WIDTH, Limits::STATES)
 }

@@ -1,40 +1,30 @@
 // The checks in 01's order: 1 to 4, each with its place.
 ghost use Rattle.std.specs.Prelude.{◌≡◌};
 ghost use Rattle.rules.specs.Checks.{checks};
-ghost use Rattle.checks.specs.Checked.{tables, checked_of};
+ghost use Rattle.syntax.specs.Tables.{given};
+ghost use Rattle.checks.specs.Checked.{checked_of};
 
-use crate::bad::Bad;
 use crate::limits::within_limits;
 use crate::shapes::first_bad_shape_or_state;
 use crate::tokens::first_bad_token;
-use syntax::{Limits, Refusal};
-
-// Fine, or a number of refusal and its place.
-#[derive(Clone, Copy)]
-pub enum Checked {
-    Fine,
-    Refused(u32, usize),
-}
+use syntax::{Limits, Refusal, Refused, Tables};
 
 // The tables are judged beside a dropped buffer of so many numbers. Nothing is asked of them.
 #[tactic(auto, unfolding(rules::specs::Checks::checks))]
-pub fn check(text: &[u8], tokens: &[u32], shapes: &[u32], states: &[u32], dropped: usize) -> Checked
-    ensures { let t = tables text.now tokens.now shapes.now states.now in
-        checks t dropped ≡ checked_of result }
+pub fn check(tables: &Tables<'_>, dropped: usize) -> Result<(), Refused>
+    ensures { checks (given tables.entry) dropped ≡ checked_of result }
 {
-    if !within_limits(text, tokens, shapes, states) {
-        return Checked::Refused(Refusal::LIMIT, 0);
+    if !within_limits(tables) {
+        return Err(Refusal::Limit.at(0));
     }
-    if dropped < tokens.len() / Limits::TOKEN_WIDTH * Limits::DROPPED_WIDTH {
-        return Checked::Refused(Refusal::DROPPED_ROOM, 0);
+    if dropped < tables.tokens.len() / Limits::TOKEN_WIDTH * Limits::DROPPED_WIDTH {
+        return Err(Refusal::DroppedRoom.at(0));
     }
-    let token = first_bad_token(text, tokens, shapes);
-    if let Bad::Row(row) = token {
-        return Checked::Refused(Refusal::TOKEN, row);
+    if let Some(row) = first_bad_token(tables) {
+        return Err(Refusal::Token.at(row));
     }
-    let shape = first_bad_shape_or_state(shapes, states);
-    if let Bad::Row(row) = shape {
-        return Checked::Refused(Refusal::SHAPE, row);
+    if let Some(row) = first_bad_shape_or_state(tables) {
+        return Err(Refusal::Shape.at(row));
     }
-    Checked::Fine
+    Ok(())
 }

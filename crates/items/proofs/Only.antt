@@ -4,7 +4,8 @@ use mathlib.Core.List.{[]}
 use mathlib.Core.Path.{◌≡◌, refl, sym, ap, ap₂, ◌∙◌}
 use Rattle.rules.specs.Items as rules
 use Rattle.rules.specs.Position as position
-use Rattle.syntax.proofs.Only.{Only, equal, fixed, stands, scope, from_scope}
+use Rattle.syntax.proofs.Only.{Only, equal, fixed, stands, scope, from_scope, kind_at, from_kind}
+use Rattle.syntax.specs.SyntaxKind.{number_of}
 use Rattle.arg_match.proofs.Fixed.{matcher, from_matcher}
 use Rattle.arg_match.specs.Answers.{matcher_of}
 use Rattle.items.specs.Items.{item_for, shape_for, piece_for, choice_for}
@@ -35,12 +36,14 @@ pub equations :
     Only greedy-stops.Post
     × Only attachable.Post
     × Only closer.Post
-    × Only group-kind.Post
     × Only is-command-name.Post
     × Only is-if.Post
     × Only attachable-command.Post
     × Only name-only.Post
-equations = (equal, equal, equal, equal, equal, equal, equal, equal)
+equations = (equal, equal, equal, equal, equal, equal, equal)
+
+pub only_group_kind : Only group-kind.Post
+only_group_kind = stands number_of kind_at from_kind
 
 -- ---- shapes
 
@@ -69,7 +72,7 @@ item_back (rules.attachment script) = item.Attachment script
 item_back rules.command = item.Command
 item_back rules.environment = item.Environment
 item_back rules.left_right = item.LeftRight
-item_back (rules.skipped node) = item.Skipped node
+item_back (rules.skipped node) = item.Skipped (kind_at node)
 
 from_item : (i : Item) → item_back (item_for i) ≡ i
 from_item item.Plain = refl
@@ -81,7 +84,7 @@ from_item (item.Attachment script) = refl
 from_item item.Command = refl
 from_item item.Environment = refl
 from_item item.LeftRight = refl
-from_item (item.Skipped node) = refl
+from_item (item.Skipped node) = ap item.Skipped (from_kind node)
 
 pub only_item_of : Only item_of.Post
 only_item_of = stands item_for item_back from_item

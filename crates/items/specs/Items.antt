@@ -3,6 +3,7 @@ use Rattle.rules.specs.Items as rules
 use Rattle.rules.specs.Position as position
 use Rattle.arg_match.specs.Answers.{matcher_of}
 use Rattle.syntax.specs.ParseScope.{scope_of}
+use Rattle.syntax.specs.SyntaxKind.{number_of}
 use Rattle.items.specs.declared.choice.Choice.{Choice}
 use Rattle.items.specs.declared.choice.Choice.TheVariants as choice
 use Rattle.items.specs.declared.choice.Piece.{Piece}
@@ -21,7 +22,7 @@ item_for (item.Attachment script) = rules.attachment script
 item_for item.Command = rules.command
 item_for item.Environment = rules.environment
 item_for item.LeftRight = rules.left_right
-item_for (item.Skipped node) = rules.skipped node
+item_for (item.Skipped node) = rules.skipped (number_of node)
 
 abbrev pub shape_for : Shape → position.Shape
 shape_for s = record { class = s.class; form = s.form; value = s.value }

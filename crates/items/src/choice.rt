@@ -1,6 +1,6 @@
 // What the next argument of a command or a \begin is, and where greedy arguments stop.
 ghost use Rattle.std.specs.Prelude.{◌≡◌};
-ghost use Rattle.rules.specs.Items.{choose, greedy_stops, if_matched, is_environment};
+ghost use Rattle.rules.specs.Items.{choose, greedy_stops, if_matched};
 ghost use Rattle.rules.specs.Token.{Word as word_kind};
 ghost use Rattle.arg_match.specs.Answers.{matched_of, matcher_of};
 ghost use Rattle.syntax.specs.ParseScope.{scope_of};
@@ -30,32 +30,13 @@ pub enum Choice {
     Takes(Piece, ArgMatcher),
 }
 
-fn is_environment(scope: ParseScope) -> bool
-    ensures { result ≡ is_environment (scope_of scope) }
-{
-    match scope {
-        ParseScope::Root => false,
-        ParseScope::DollarFormula => false,
-        ParseScope::CmdFormula => false,
-        ParseScope::Environment => true,
-        ParseScope::LR => false,
-        ParseScope::CurlyItem => false,
-        ParseScope::BracketItem => false,
-        ParseScope::ParenItem => false,
-    }
-}
-
 #[tactic(auto, unfolding(rules::specs::Items::greedy_stops))]
 pub fn greedy_stops(scope: ParseScope, kind: u32) -> bool
     ensures { result ≡ greedy_stops (scope_of scope) kind }
 {
-    if kind == Token::AMPERSAND {
-        return true;
-    }
-    if kind == Token::NEW_LINE && is_environment(scope) {
-        return true;
-    }
-    scope.stop_by_scope(kind)
+    kind == Token::AMPERSAND
+        || kind == Token::NEW_LINE && scope == ParseScope::Environment
+        || scope.stop_by_scope(kind)
 }
 
 // By the matcher's answer: the arguments end, the piece is taken whole, or its opening brace alone.
@@ -79,8 +60,7 @@ pub fn choose(states: &[u32], scope: ParseScope, matcher: ArgMatcher, kind: u32)
         return Choice::Holds;
     }
     match kind {
-        Token::AMPERSAND => Choice::Ends,
-        Token::CARET | Token::UNDERSCORE => Choice::Ends,
+        Token::AMPERSAND | Token::CARET | Token::UNDERSCORE => Choice::Ends,
         Token::LEFT_CURLY => if_matched(
             Piece::Within(ParseScope::CurlyItem),
             matcher.match_next(states, Argument::Term),

@@ -2,6 +2,7 @@
 ghost use Rattle.std.specs.Prelude.{◌≡◌};
 ghost use Rattle.rules.specs.Items.{attachable, attachable_item, closer, group_kind, is_command_name, is_if, item_of, no_shape, plain};
 ghost use Rattle.syntax.specs.ParseScope.{scope_of};
+ghost use Rattle.syntax.specs.SyntaxKind.{number_of};
 ghost use Rattle.items.specs.Items.{item_for, shape_for};
 
 use crate::shape::Shape;
@@ -26,7 +27,7 @@ pub enum Item {
     // `\left`.
     LeftRight,
     // A body that is skipped, in a node of this kind.
-    Skipped(u32),
+    Skipped(SyntaxKind),
 }
 
 pub fn item_of(kind: u32) -> Item
@@ -42,33 +43,31 @@ pub fn item_of(kind: u32) -> Item
         Token::COMMA => Item::Comma,
         Token::DOLLAR => Item::Group(ParseScope::DollarFormula),
         Token::BEGIN_MATH => Item::Group(ParseScope::CmdFormula),
-        Token::GENERIC | Token::ELSE | Token::RIGHT => Item::Command,
-        Token::IF | Token::END_IF => Item::Command,
+        Token::GENERIC | Token::ELSE | Token::RIGHT | Token::IF | Token::END_IF => Item::Command,
         Token::BEGIN_ENVIRONMENT => Item::Environment,
-        Token::IF_FALSE => Item::Skipped(SyntaxKind::ITEM_BLOCK_COMMENT),
-        Token::IF_TYPST => Item::Skipped(SyntaxKind::ITEM_TYPST_CODE),
+        Token::IF_FALSE => Item::Skipped(SyntaxKind::ItemBlockComment),
+        Token::IF_TYPST => Item::Skipped(SyntaxKind::ItemTypstCode),
         Token::LEFT => Item::LeftRight,
         _ => Item::Plain,
     }
 }
 
 // The node of a group.
-pub fn group_kind(scope: ParseScope) -> u32
-    ensures { result ≡ group_kind (scope_of scope) }
+pub fn group_kind(scope: ParseScope) -> SyntaxKind
+    ensures { number_of result ≡ group_kind (scope_of scope) }
 {
     match scope {
-        ParseScope::Root => SyntaxKind::SCOPE_ROOT,
-        ParseScope::DollarFormula => SyntaxKind::ITEM_FORMULA,
-        ParseScope::CmdFormula => SyntaxKind::ITEM_FORMULA,
-        ParseScope::Environment => SyntaxKind::ITEM_ENV,
-        ParseScope::LR => SyntaxKind::ITEM_LR,
-        ParseScope::CurlyItem => SyntaxKind::ITEM_CURLY,
-        ParseScope::BracketItem => SyntaxKind::ITEM_BRACKET,
-        ParseScope::ParenItem => SyntaxKind::ITEM_PAREN,
+        ParseScope::Root => SyntaxKind::ScopeRoot,
+        ParseScope::DollarFormula | ParseScope::CmdFormula => SyntaxKind::ItemFormula,
+        ParseScope::Environment => SyntaxKind::ItemEnv,
+        ParseScope::LR => SyntaxKind::ItemLR,
+        ParseScope::CurlyItem => SyntaxKind::ItemCurly,
+        ParseScope::BracketItem => SyntaxKind::ItemBracket,
+        ParseScope::ParenItem => SyntaxKind::ItemParen,
     }
 }
 
-// The kind of token that closes a group. No kind closes the root.
+// The kind of token that closes a group. No kind closes the root: a number over all kinds stands for it, since the contract's `closer` says so.
 pub fn closer(scope: ParseScope) -> u32
     ensures { result ≡ closer (scope_of scope) }
 {
@@ -88,30 +87,32 @@ pub fn closer(scope: ParseScope) -> u32
 pub fn is_command_name(kind: u32) -> bool
     ensures { result ≡ is_command_name kind }
 {
-    Token::GENERIC <= kind && kind <= Token::RIGHT
+    matches!(kind, Token::GENERIC..=Token::RIGHT)
 }
 
 // Any \if.
 pub fn is_if(kind: u32) -> bool
     ensures { result ≡ is_if kind }
 {
-    match kind {
-        Token::IF_FALSE | Token::IF => true,
-        Token::IF_TYPST => true,
-        _ => false,
-    }
+    matches!(kind, Token::IF_FALSE | Token::IF_TYPST | Token::IF)
 }
 
 // Whether a token that is an item by itself may carry a script.
 fn attachable_token(kind: u32) -> bool
     ensures { result ≡ attachable_item plain kind no_shape }
 {
-    match kind {
-        Token::AMPERSAND | Token::NEW_LINE | Token::HASH | Token::AT_SIGN => false,
-        Token::LINE_BREAK | Token::LINE_COMMENT => false,
-        Token::WHITESPACE | Token::ASTERISK | Token::ERROR => false,
-        _ => true,
-    }
+    !matches!(
+        kind,
+        Token::AMPERSAND
+            | Token::NEW_LINE
+            | Token::HASH
+            | Token::AT_SIGN
+            | Token::LINE_BREAK
+            | Token::LINE_COMMENT
+            | Token::WHITESPACE
+            | Token::ASTERISK
+            | Token::ERROR
+    )
 }
 
 // Whether an item that begins with this kind may carry a script.
@@ -120,15 +121,15 @@ fn attachable_item(item: Item, kind: u32, shape: Shape) -> bool
 {
     match item {
         Item::Plain => attachable_token(kind),
-        Item::Error => true,
-        Item::Word => true,
-        Item::Comma => true,
         Item::Group(_) => kind != Token::DOLLAR && kind != Token::BEGIN_MATH,
         Item::Attachment(_) => false,
         Item::Command => shape.of_class(Class::COMMAND).attachable_command(),
-        Item::Environment => true,
-        Item::LeftRight => true,
-        Item::Skipped(_) => true,
+        Item::Error
+        | Item::Word
+        | Item::Comma
+        | Item::Environment
+        | Item::LeftRight
+        | Item::Skipped(_) => true,
     }
 }
 

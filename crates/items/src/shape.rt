@@ -12,6 +12,7 @@ use arg_match::ArgMatcher;
 use lexer::{Column, cell};
 use syntax::{Form, Limits};
 
+// Class and form stay numbers and no enums: they come in a lent table, and `row` promises them as they stand there, right or not.
 #[derive(Clone, Copy)]
 pub struct Shape {
     pub class: u32,
@@ -63,32 +64,22 @@ impl Shape {
         ensures { shape_for result ≡ of_class class (shape_for self) }
     {
         if self.class == class {
-            return self;
+            self
+        } else {
+            Self::none()
         }
-        Self::none()
     }
 
     pub fn name_only(self) -> bool
         ensures { result ≡ name_only (shape_for self) }
     {
-        if self.form == Form::NONE {
-            return true;
-        }
-        if self.form == Form::FIXED {
-            return self.value == 0;
-        }
-        false
+        self.form == Form::NONE || self.form == Form::FIXED && self.value == 0
     }
 
     pub fn attachable_command(self) -> bool
         ensures { result ≡ attachable_command (shape_for self) }
     {
-        let form = self.form;
-        match form {
-            Form::GREEDY | Form::INFIX_GREEDY => false,
-            Form::LEFT1 => false,
-            _ => true,
-        }
+        !matches!(self.form, Form::GREEDY | Form::LEFT1 | Form::INFIX_GREEDY)
     }
 
     pub fn matcher(self) -> ArgMatcher

@@ -1,12 +1,16 @@
--- The loop is that of Rows.antt: where it finds a row, from a turn to the next, and behind its last.
-use Rattle.checks.proofs.Rows.{finds, goes_on, ends}
+-- The search asks the rule's question of each row, and that looks at neither the text nor the tokens.
+use Rattle.std.proofs.Common.{◌≡◌, true, false, rules, tests}
+use Rattle.std.proofs.lemmas.Iterator.{first_from_Range}
+use Rattle.rules.specs.Checks.{shape_or_state_right}
+use Rattle.syntax.specs.Tables.{given}
+use Rattle.checks.proofs.Rows.{first}
 use Rattle.checks.proofs.shapes.first_bad_shape_or_state.Goals as goal
 
-pub returns-then-not-shape_or_state_right : goal.returns-then-not-shape_or_state_right
-returns-then-not-shape_or_state_right c = search finds
-
-pub loop-row-preserved : goal.loop-row-preserved
-loop-row-preserved c = search goes_on
-
 pub returns : goal.returns
-returns c = search ends
+unfolding shape_or_state_right
+returns c =
+    let right = shape_or_state_right (given c.args.tables) in
+    let cases =
+    first_from_Range _ _ _ _ (λ row. right row ≡ false) (λ row. right row ≡ true) c.find.ensures.ran (λ x q k. search (rules, tests))
+    (λ x q k. search (rules, tests)) in
+    record { is = λ text_and_tokens. first right _ _ cases }

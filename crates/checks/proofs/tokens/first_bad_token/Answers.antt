@@ -1,12 +1,16 @@
--- The loop is that of Rows.antt: where it finds a row, from a turn to the next, and behind its last.
-use Rattle.checks.proofs.Rows.{finds, goes_on, ends}
+-- The search asks the rule's question of each row, and that doesn't look at the states.
+use Rattle.std.proofs.Common.{◌≡◌, true, false, rules, tests}
+use Rattle.std.proofs.lemmas.Iterator.{first_from_Range}
+use Rattle.rules.specs.Checks.{token_right, word_right}
+use Rattle.syntax.specs.Tables.{given}
+use Rattle.checks.proofs.Rows.{first}
 use Rattle.checks.proofs.tokens.first_bad_token.Goals as goal
 
-pub returns-then-not-token_right : goal.returns-then-not-token_right
-returns-then-not-token_right c = search finds
-
-pub loop-token-preserved : goal.loop-token-preserved
-loop-token-preserved c = search goes_on
-
 pub returns : goal.returns
-returns c = search ends
+unfolding token_right word_right
+returns c =
+    let right = token_right (given c.args.tables) in
+    let cases =
+    first_from_Range _ _ _ _ (λ row. right row ≡ false) (λ row. right row ≡ true) c.find.ensures.ran (λ x q k. search (rules, tests))
+    (λ x q k. search (rules, tests)) in
+    record { is = λ states. first right _ _ cases }
