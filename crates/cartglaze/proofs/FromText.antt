@@ -17,14 +17,14 @@ use Rattle.rules.proofs.Tiled.{tiled}
 use Rattle.rules.proofs.Tokenised.{wrote}
 use Rattle.rules.proofs.Tokenised as tokenised
 use Rattle.listings.specs.Stands.{ran_of}
-use Rattle.listings.specs.declared.answer.Answer.TheVariants.{Refused}
+use Rattle.cartglaze.proofs.Answers.{RefusedAt}
 use Rattle.tokeniser.specs.Answers.{tokenised_of}
-use Rattle.tokeniser.specs.declared.rows.Tokenised.TheVariants.{Written}
+use Rattle.std.specs.Prelude.{Ok}
 use Rattle.cartglaze.proofs.NothingLost.{Met}
 
 -- so many rows were written of the text, and they are the tokens of the tables
 pub record Cut (t : Tables) (before after : List ℕ) (count : ℕ) : Type 0 where
-  pub met : (tokenised_of (Written count), after) ≡ tokenise t.text before
+  pub met : (tokenised_of (Ok count), after) ≡ tokenise t.text before
   pub tokens : t.tokens ≡ take (count * token_width) after
 
 module _ (t : Tables) {before after : List ℕ} {count : ℕ} (cut : Cut t before after count) (tree dropped : List ℕ) where
@@ -46,7 +46,7 @@ module _ (t : Tables) {before after : List ℕ} {count : ℕ} (cut : Cut t befor
   longest = subst (λ l. Longest t.text l 0 0) (sym are) (each-longest t.text)
 
   -- a run on it is never refused 3
-  pub never_refused_3 : {place : ℕ} {v w : List ℕ} → run t tree dropped ≡ ran_of (Refused 3 place) v w → ⊥
+  pub never_refused_3 : {place : ℕ} {v w : List ℕ} → run t tree dropped ≡ ran_of (RefusedAt 3 place) v w → ⊥
   never_refused_3 e = tokenised.never_refused_3 t tree dropped before answered rows (ap (λ (r : Ran). r.answer) e)
 
   -- leaf texts and dropped texts put back, each in its token's source range, are the text, byte for byte

@@ -13,7 +13,7 @@ use Rattle.rules.specs.Exactly.{RanExactly}
 use Rattle.rules.proofs.Exactly.{run-exactly}
 use Rattle.rules.proofs.NothingLost as rules
 use Rattle.listings.specs.Stands.{ran_of}
-use Rattle.listings.specs.declared.answer.Answer.TheVariants.{Accepted}
+use Rattle.cartglaze.proofs.Answers.{Accepted}
 
 -- what the contract says of a call that was accepted with so many rows and dropped rows
 abbrev pub Met : Tables → List ℕ → List ℕ → ℕ → ℕ → List ℕ → List ℕ → Type 0

@@ -1,6 +1,7 @@
 -- The run's contract fixes what it speaks of: two results that meet it are equal, for no two answers stand for the same. The questions' are fixed in
 -- crates/questions/proofs/Only.antt. Assumes nothing.
-use mathlib.Core.Path.{◌≡◌, sym, ap, ◌∙◌}
+use Rattle.std.specs.Prelude.{Ok, Err}
+use mathlib.Core.Path.{◌≡◌, sym, ap, ap₂, ◌∙◌}
 use mathlib.Core.List.{List}
 use Prim.Native.Nat.{ℕ}
 use native.Mathlib.Omega.{arith}
@@ -8,8 +9,9 @@ use Rattle.rules.specs.Checks.{Tables}
 use Rattle.rules.specs.Run as rules
 use Rattle.rules.specs.Run.{run}
 use Rattle.listings.specs.Stands.{answer_of, ran_of}
-use Rattle.listings.specs.declared.answer.Answer.{Answer}
-use Rattle.listings.specs.declared.answer.Answer.TheVariants.{Accepted, Refused}
+use Rattle.cartglaze.proofs.Answers.{Answer}
+use Rattle.listings.specs.declared.answer.Counts.{Counts}
+use Rattle.syntax.specs.declared.refusal.Refused.{Refused}
 
 -- the two numbers of an answer
 abbrev first : rules.Answer → ℕ
@@ -22,16 +24,16 @@ second (rules.refused_at number place) = place
 
 -- two answers that stand for the same are the same
 pub same_answer : (r s : Answer) → answer_of r ≡ answer_of s → r ≡ s
-same_answer (Accepted rows dropped) (Accepted n m) e =
-    let one : rows ≡ n = omega (arith, ap first e) in
-    let other : dropped ≡ m = omega (arith, ap second e) in
-    rw (one, other)
-same_answer (Accepted rows dropped) (Refused number place) e = let z : ◌≡◌ {A = ℕ} 0 1 = cc in absurd (omega arith)
-same_answer (Refused number place) (Accepted rows dropped) e = let z : ◌≡◌ {A = ℕ} 0 1 = cc in absurd (omega arith)
-same_answer (Refused number place) (Refused n p) e =
-    let one : number ≡ n = omega (arith, ap first e) in
-    let other : place ≡ p = omega (arith, ap second e) in
-    rw (one, other)
+same_answer (Ok r) (Ok s) e = ap Ok (ap₂ counts (ap first e) (ap second e))
+  where
+    counts : ℕ → ℕ → Counts
+    counts rows dropped = record { rows = rows; dropped = dropped }
+same_answer (Ok r) (Err s) e = let z : ◌≡◌ {A = ℕ} 0 1 = cc in absurd (omega arith)
+same_answer (Err r) (Ok s) e = let z : ◌≡◌ {A = ℕ} 0 1 = cc in absurd (omega arith)
+same_answer (Err r) (Err s) e = ap Err (ap₂ refused (ap first e) (ap second e))
+  where
+    refused : ℕ → ℕ → Refused
+    refused number place = record { number = number; place = place }
 
 -- the answer and every element of both buffers
 pub only_run : (t : Tables) (tree dropped : List ℕ) (r s : Answer) (v v' w w' : List ℕ) → run t tree dropped ≡ ran_of r v w

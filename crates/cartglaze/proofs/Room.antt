@@ -3,7 +3,7 @@
 -- nothing.
 use Prim.Native.Nat.{ℕ, ◌*◌, ◌/◌, ◌≤◌}
 use mathlib.Core.List.{List}
-use mathlib.Core.Option.{Option, none, some}
+use Rattle.std.specs.Prelude.{Option, None as none, Some as some}
 use mathlib.Core.Path.{◌≡◌, refl, sym, ap, ◌∙◌}
 use native.Mathlib.Omega.{arith}
 use borrow.Author.Tests.{le-ltb}
@@ -22,8 +22,7 @@ use Rattle.rules.proofs.Goes.{Goes, goes}
 use Rattle.rules.proofs.HandedRows.{HasRead, rows_read}
 use Rattle.rules.proofs.NothingLost.{sound}
 use Rattle.rules.proofs.Room as rules
-use Rattle.listings.specs.declared.answer.Answer.{Answer}
-use Rattle.listings.specs.declared.answer.Answer.TheVariants.{Accepted, Refused}
+use Rattle.cartglaze.proofs.Answers.{Answer, Accepted, RefusedAt}
 use Rattle.listings.specs.Stands.{ran_of}
 use Rattle.cartglaze.proofs.NothingLost.{Met}
 use Rattle.cartglaze.proofs.Only.{same_answer}
@@ -156,9 +155,9 @@ module _ (t : Tables) (tree tree' dropped dropped' : List ℕ) (larger : length 
   -- and where the first was refused with another number than 8, the second is refused with the same number and place. 1 to 4 are told before the
   -- tree buffer is looked at, 2 by the dropped buffers alone
   pub refused-with_more : {number place : ℕ} {v w v' w' : List ℕ} (r : Answer) → (number ≡ no_room → ⊥)
-      → run t tree dropped ≡ ran_of (Refused number place) v w
+      → run t tree dropped ≡ ran_of (RefusedAt number place) v w
       → run t tree' dropped' ≡ ran_of r v' w'
-      → r ≡ Refused number place
+      → r ≡ RefusedAt number place
   refused-with_more r other met met' =
       let same = rw met' at (run-refused t tree tree' dropped dropped' larger alike other (ap (λ (x : Ran). x.answer) met)) in
       same_answer _ _ same

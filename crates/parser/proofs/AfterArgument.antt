@@ -1,4 +1,5 @@
 -- What an argument leaves, told by its rule: its last step holds nothing, and of a Word exactly a character is passed. Assumes nothing.
+use Rattle.std.specs.Prelude.{Ok}
 use mathlib.Core.Path.{◌≡◌, refl, ap, ◌∙◌}
 use mathlib.Core.Bool.{Bool}
 use mathlib.Core.List.{List, [], ◌∷◌}
@@ -19,11 +20,9 @@ use Rattle.rules.specs.Reading as spec
 use Rattle.rules.specs.Routines.{argument_begins, argument_ends, argument_node, ignore_holding_trivia, single_char}
 use Rattle.rules.specs.SyntaxKind.{ClauseArgument, TokenWord}
 use Rattle.lexer.specs.Reading.{cursor_of}
-use Rattle.state.specs.Stands.{Buffers, Here, pos_of, out_of}
+use Rattle.state.specs.Stands.{Step, Buffers, Here, pos_of, out_of}
 use Rattle.state.specs.Contract.{Ready, Holding, Runs}
 use Rattle.state.specs.declared.Parser.{Parser}
-use Rattle.state.specs.declared.Step.{Step}
-use Rattle.state.specs.declared.Step.TheVariants.{Went}
 use Rattle.parser.specs.Member.{inner_at}
 
 -- ---- where an outcome goes to
@@ -129,7 +128,7 @@ module _ (n : ℕ) (s : Source) (inner : Bool → Rule (flat n)) where
 -- ---- the same of the code's state
 
 module _ {t : Tables} {gain : ℕ} (what : Piece) {q : Parser} {v : Buffers} {r : Step} {x : Buffers} {z : Parser}
-    (read : Runs t gain (λ n d. spec.argument (flat n) (source_of t) (inner_at t n d) what (pos_of q v)) q v r x) (e : r ≡ Went z) where
+    (read : Runs t gain (λ n d. spec.argument (flat n) (source_of t) (inner_at t n d) what (pos_of q v)) q v r x) (e : r ≡ Ok z) where
   -- what is so of every position that the rule goes to is so of the one that it went to
   pub told : (P : Here → Type 0) → ((n d : ℕ) → Always P (spec.argument (flat n) (source_of t) (inner_at t n d) what (pos_of q v))) → P (pos_of z x)
   told P k =
@@ -144,7 +143,7 @@ module _ {t : Tables} {gain : ℕ} (what : Piece) {q : Parser} {v : Buffers} {r 
       record { held = omega arith; dropped = omega arith }
 
 module _ {t : Tables} {gain : ℕ} {q : Parser} {v : Buffers} {r : Step} {x : Buffers} {z : Parser}
-    (read : Runs t gain (λ n d. spec.argument (flat n) (source_of t) (inner_at t n d) character (pos_of q v)) q v r x) (e : r ≡ Went z) where
+    (read : Runs t gain (λ n d. spec.argument (flat n) (source_of t) (inner_at t n d) character (pos_of q v)) q v r x) (e : r ≡ Ok z) where
   abbrev behind_it : Cursor
   behind_it = consumed t.tokens (char_length (peek_text t.text t.tokens (cursor_of q.lexer))) (cursor_of q.lexer)
 

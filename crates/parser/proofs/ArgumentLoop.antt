@@ -1,8 +1,9 @@
 -- The loop of arguments: its invariant is the walk so far, with turns enough for what is left to read. A turn ends, holds a token, or reads an
 -- argument. Assumes nothing.
+use Rattle.syntax.specs.declared.refusal.Refused.{Refused}
 use mathlib.Core.Path.{◌≡◌, refl, sym, ◌∙◌}
 use mathlib.Core.List.{List, [], ◌∷◌}
-use mathlib.Core.Option.{none, some}
+use Rattle.std.specs.Prelude.{Ok, Err, None as none, Some as some}
 use Prim.Native.Nat.{ℕ, zero, suc, ◌+◌, ◌≤◌, ◌<◌}
 use native.Mathlib.Omega.{arith}
 use Rattle.rules.specs.Checks.{Tables, source_of}
@@ -16,16 +17,14 @@ use Rattle.rules.specs.Routines.{hold_trivia}
 use Rattle.lexer.specs.Reading.{cursor_of}
 use Rattle.lexer.proofs.Laws.{left-some}
 use Rattle.syntax.specs.ParseScope.{scope_at}
-use Rattle.state.specs.Stands.{Buffers, pos_of}
+use Rattle.state.specs.Stands.{Step, Buffers, pos_of}
 use Rattle.state.specs.Change.{relexed}
-use Rattle.state.specs.Contract.{Ready, Left, Holding, Runs, left_of}
+use Rattle.state.specs.Contract.{Ready, Left, Holding, left_of}
 use Rattle.state.specs.declared.Parser.{Parser}
-use Rattle.state.specs.declared.Step.{Step}
-use Rattle.state.specs.declared.Step.TheVariants.{Went}
 use Rattle.routines.proofs.HeldLaws as held
-use Rattle.state.proofs.Walk.{Rule, line, last_step, two_steps, Walk, begins, turns, passes, forgets, leaves, stops, arrives, Stopped}
+use Rattle.state.proofs.Walk.{HandsOn, handed, Rule, line, last_step, two_steps, Walk, begins, turns, passes, forgets, leaves, stops, arrives}
 use Rattle.parser.specs.Member.{Next, inner_at, all_arguments}
-use Rattle.parser.proofs.Cycle.{runs}
+use Rattle.parser.proofs.Cycle.{Came, runs}
 use Rattle.parser.proofs.AfterArgument.{holding_behind}
 
 module _ (t : Tables) (p : Parser) (first : Matcher) (b : Buffers) where
@@ -79,7 +78,7 @@ module _ (t : Tables) (p : Parser) (first : Matcher) (b : Buffers) where
       ended zero n d = refl
       ended (suc fuel) n d = rw (chosen n d)
 
-      pub arguments-end : Runs t 0 (λ n d. all n d (pos_of p b)) p b (Went q) v
+      pub arguments-end : Came t 0 all p b (Ok q) v
       arguments-end = arrives (turns far.walk (ended far.fuel))
 
     -- ---- a turn with a token next
@@ -139,11 +138,11 @@ module _ (t : Tables) (p : Parser) (first : Matcher) (b : Buffers) where
         unfolding spec.arguments
         taking_turn = turn _ (λ fuel n d. rw (chosen n d) (sym (two_steps (argument what) (more fuel next) n d (pos_of q v))))
 
-        module _ {r : Step} {x : Buffers} (read : Runs t 1 (λ n d. argument what n d (pos_of q v)) q v r x) where
-          pub arguments-stop : {any : Buffers} → Stopped r → Runs t 0 (λ n d. all n d (pos_of p b)) p b r any
-          arguments-stop st = stops taking_turn.walk (runs read) st
+        module _ {r : Step} {x : Buffers} (read : Came t 1 (argument what) q v r x) where
+          pub arguments-stop : {any : Buffers} {e : Refused} {s : Step} → r ≡ Err e → HandsOn s e → Came t 0 all p b s any
+          arguments-stop st hands = rw (handed hands) (stops taking_turn.walk (runs read) st)
 
-          module _ {z : Parser} (e : r ≡ Went z) where
+          module _ {z : Parser} (e : r ≡ Ok z) where
             took_one : Left t 1 q v z x
             took_one = leaves taking_turn.walk (runs read) e
 

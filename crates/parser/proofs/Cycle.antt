@@ -1,23 +1,30 @@
 -- The walk in the cycle: calls of members at the caller's level and below it, and steps that change the list or what is held alone. Assumes nothing.
+use Rattle.std.specs.Prelude.{Ok, Err}
 use mathlib.Core.Path.{◌≡◌, refl, ◌∙◌}
 use mathlib.Core.List.{List, ◌∷◌}
-use Prim.Native.Nat.{ℕ, zero, suc, ◌+◌, ◌≤◌}
+use Prim.Native.Nat.{ℕ, zero, suc, ◌+◌, ◌≤◌, ◌<◌}
 use native.Mathlib.Omega.{arith}
 use lib.ListN.{length, drop}
 use Rattle.rules.specs.Limits.{nodes}
+use Rattle.rules.specs.Tables.{token_count}
+use Rattle.builder.specs.Contract.{Fits, Within}
 use Rattle.rules.specs.Outcome.{Out, went}
 use Rattle.rules.specs.Checks.{Tables, source_of}
-use Rattle.state.specs.Stands.{Buffers, Here, pos_of, out_of}
+use Rattle.state.specs.Stands.{Step, Buffers, Here, pos_of, out_of}
 use Rattle.state.specs.Change.{relisted, remarked, unheld}
-use Rattle.state.specs.Contract.{MarkOk, Ready, Left, Gone, Runs, Ran, RuleOf, weight, buffers}
+use Rattle.state.specs.Contract.{MarkOk, Ready, Left, Begun, Somehow, Gone, Runs, Ran, RuleOf, weight, buffers}
 use Rattle.state.specs.declared.ListState.{ListState}
 use Rattle.state.specs.declared.KeptMark.{KeptMark}
 use Rattle.state.specs.declared.Parser.{Parser}
-use Rattle.state.specs.declared.Step.{Step}
-use Rattle.state.specs.declared.Step.TheVariants.{Went, Refused}
 use Rattle.state.proofs.Left.{changed, steady_changed}
-use Rattle.state.proofs.Turn.{Turn}
-use Rattle.state.proofs.Walk.{Rule, line, Walk, Call, passing, stays_home, weaker}
+use Rattle.state.proofs.Turn.{Turn, still_next}
+use Rattle.parser.proofs.Entry.{somehow}
+use Rattle.syntax.specs.declared.refusal.Refused.{Refused}
+use Rattle.state.proofs.Walk.{HandsOn, handed, Rule, line, Walk, Call, passing, stays_home, weaker}
+
+-- a member came to a rule
+abbrev pub Came : Tables → ℕ → Rule → Parser → Buffers → Step → Buffers → Type 0
+Came t gain rule p m r v = Runs t gain (λ n d. rule n d (pos_of p m)) p m r v
 
 -- ---- calls
 
@@ -38,6 +45,26 @@ below {lift = lift} {f} {u} {v} {r} {x} deep k = record { is = λ ready d h. one
 -- how a call ended: so many steps of a member's plan are done if it went
 abbrev pub TurnedBy : Tables → Rule → List Rule → Parser → Buffers → ℕ → ℕ → ℕ → Step → List ℕ → List ℕ → Type 0
 TurnedBy t rule plan p m count gain lift r tree dropped = Turn t rule (drop count plan) gain lift p.list.scope p m r (buffers tree dropped)
+
+-- it was refused, and the member handed that on by its `?`
+pub hands_back : {t : Tables} {rule : Rule} {rest : List Rule} {gain lift scope any : ℕ} {s : Parser} {m : Buffers} {r : Step} {x : Buffers}
+    → {e : Refused} {o : Step} → Turn t rule rest gain lift scope s m r x → r ≡ Err e → HandsOn o e → Came t any rule s m o x
+hands_back k refused hands = rw (handed hands) (k.refused refused)
+
+-- it went, and its state was put together again
+pub settled : {r : Step} {z u : Parser} → r ≡ Ok z → u ≡ z → r ≡ Ok u
+settled gone same = rw same gone
+
+-- what a node's end asks, behind a call that went
+pub open_behind : {t : Tables} {rule : Rule} {rest : List Rule} {gain lift scope : ℕ} {s : Parser} {m : Buffers} {r : Step} {x : Buffers} {z : Parser}
+    → Turn t rule rest gain lift scope s m r x → r ≡ Ok z → Fits z.builder x.tree × Within z.builder
+open_behind k e = let ready = (k.went e).ready in (ready.steady.fits, ready.within)
+
+-- what a routine outside the cycle asks that reads the first token in a node: it is there still, and the tables are the member's
+pub first_inside : {sees : Tables → Type 0} {t : Tables} {rule f : Rule} {rest : List Rule} {gain lift scope : ℕ} {s : Parser} {m : Buffers}
+    → {r : Step} {x : Buffers} {z : Parser} → sees t → Ready t s m → s.lexer.token < token_count t.tokens → Call t f 0 (λ q. Begun t s m q x) s m r x
+    → Turn t rule rest gain lift scope s m r x → r ≡ Ok z → (z.lexer.token < token_count t.tokens) × Somehow sees z x.tree
+first_inside seen ready next starts k e = (still_next ready starts e next, somehow seen (k.went e).ready)
 
 -- ---- steps that call nothing
 
@@ -106,7 +133,7 @@ above k = record { is = λ d h. k.is (suc d) (omega arith); gone = k.gone }
 -- a member that promises less of what it reads than its callee
 gone_less : (t : Tables) (gain less : ℕ) (p : Parser) (m v : Buffers) → less ≤ gain → (r : Step)
     → Gone (λ q. Left t gain p m q v) r → Gone (λ q. Left t less p m q v) r
-gone_less t gain less p m v h (Went q) k =
+gone_less t gain less p m v h (Ok q) k =
     record {
       passed = weaker less h k.passed;
       ready = k.ready;
@@ -115,7 +142,7 @@ gone_less t gain less p m v h (Went q) k =
       node = k.node;
       scope = k.scope;
     }
-gone_less t gain less p m v h (Refused number place) k = tt
+gone_less t gain less p m v h (Err e) k = tt
 
 pub read-less : {t : Tables} {gain less : ℕ} {want : ℕ → ℕ → Out Here} {p : Parser} {m : Buffers} {r : Step} {v : Buffers}
     → less ≤ gain → Runs t gain want p m r v → Runs t less want p m r v

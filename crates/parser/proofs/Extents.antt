@@ -1,9 +1,10 @@
 -- What an extent reads, from what its loop reads: a list of its own is taken before the first item, and the parent's marks are given back behind the
 -- last. Assumes nothing.
+use Rattle.syntax.specs.declared.refusal.Refused.{Refused}
 use mathlib.Core.Path.{◌≡◌, refl}
 use mathlib.Core.Bool.{Bool, true, false}
 use mathlib.Core.List.{[], ◌∷◌}
-use mathlib.Core.Option.{none, some}
+use Rattle.std.specs.Prelude.{Ok, Err, None as none, Some as some}
 use Prim.Native.Nat.{ℕ}
 use Rattle.rules.specs.Checks.{Tables, source_of}
 use Rattle.rules.specs.Flat.{flat}
@@ -14,20 +15,18 @@ use Rattle.syntax.proofs.Scopes.{numbered}
 use Rattle.syntax.specs.ParseScope.{number_of, scope_of}
 use Rattle.syntax.specs.declared.parse_scope.ParseScope.{ParseScope}
 use Rattle.state.specs.Change.{relisted}
-use Rattle.state.specs.Contract.{MarkOk, Ready, Runs}
-use Rattle.state.specs.Stands.{Buffers, no_mark, mark_of, list_of, pos_of, kept_of, mark_in}
+use Rattle.state.specs.Contract.{MarkOk, Ready}
+use Rattle.state.specs.Stands.{Step, Buffers, no_mark, mark_of, list_of, pos_of, kept_of, mark_in}
 use Rattle.state.specs.declared.ListState.{ListState}
 use Rattle.state.specs.declared.Parser.{Parser}
-use Rattle.state.specs.declared.Step.{Step}
-use Rattle.state.specs.declared.Step.TheVariants.{Went}
 use Rattle.state.proofs.Building.{mark_more}
-use Rattle.state.proofs.Walk.{Rule, line, Walk, begins, passes, stops, arrives, Stopped}
-use Rattle.parser.specs.Member.{NextIf, mark_here, gain_of, inner_at, items_of, inside_of, opened, closed}
+use Rattle.state.proofs.Walk.{HandsOn, handed, Rule, line, Walk, begins, passes, stops, arrives}
+use Rattle.parser.specs.Member.{mark_here, gain_of, inner_at, items_of, inside_of, opened, closed}
 use Rattle.parser.specs.declared.lists.Extent.{Extent}
 use Rattle.parser.specs.declared.lists.Extent.TheVariants.{List as Scoped, Greedy, Item as OneItem}
 use Rattle.state.proofs.Marks.{no_mark_lem, taken_ok, kept_again}
 use Rattle.parser.proofs.ItemLoop.{body}
-use Rattle.parser.proofs.Cycle.{runs, relists}
+use Rattle.parser.proofs.Cycle.{Came, runs, relists}
 use Rattle.parser.proofs.Marks.{mark_here_lem, is_mark}
 
 -- ---- a list of its own
@@ -55,17 +54,17 @@ module _ {t : Tables} {greedy : Bool} {p : Parser} {m : Buffers} {rule : Rule} (
   abbrev begun : Parser
   begun = relisted p own.list
 
-  module _ {r : Step} {x : Buffers} (read : Runs t 0 (λ n d. body t greedy n d (pos_of begun m)) begun m r x) where
-    own_stops : Stopped r → Runs t 0 (λ n d. rule n d (pos_of p m)) p m r x
-    own_stops st = stops taken (runs read) st
+  module _ {r : Step} {x : Buffers} (read : Came t 0 (body t greedy) begun m r x) where
+    own_stops : {e : Refused} {s : Step} → r ≡ Err e → HandsOn s e → Came t 0 rule p m s x
+    own_stops st hands = rw (handed hands) (stops taken (runs read) st)
 
-    module _ {q : Parser} (e : r ≡ Went q) where
+    module _ {q : Parser} (e : r ≡ Ok q) where
       read_all : Walk t rule (own.giving ∷ []) 0 0 own.list.scope p m q x
       read_all = passes taken (runs read) e
 
       own_closes : (back : ListState) → back.scope ≡ p.list.scope → MarkOk back.start p.builder → MarkOk back.last p.builder
           → ((n d : ℕ) → own.giving n d (pos_of q x) ≡ went (pos_of (relisted q back) x))
-          → Runs t 0 (λ n d. rule n d (pos_of p m)) p m (Went (relisted q back)) x
+          → Came t 0 rule p m (Ok (relisted q back)) x
       own_closes back same start last giving-is =
           let rows = read_all.passed.rows in
           let start-there = mark_more back.start p.builder q.builder rows start in
@@ -73,12 +72,6 @@ module _ {t : Tables} {greedy : Bool} {p : Parser} {m : Buffers} {rule : Rule} (
           arrives (rescoped same (relists read_all back refl start-there last-there giving-is))
 
 -- ---- as far as an extent goes
-
--- no node is opened
-pub opened-depth : (e : Extent) (p : Parser) → (opened e p).builder.depth ≡ p.builder.depth
-opened-depth (Scoped scope) p = refl
-opened-depth Greedy p = refl
-opened-depth OneItem p = refl
 
 module _ {t : Tables} {p : Parser} {m : Buffers} (ready : Ready t p m) where
   -- a list of a scope
@@ -115,17 +108,6 @@ module _ {t : Tables} {p : Parser} {m : Buffers} (ready : Ready t p m) where
         taking_is = λ n d. rw (is_mark ready);
       }
 
-  pub opened-ready : (e : Extent) → Ready t (opened e p) m
-  unfolding list-own greedy-own
-  opened-ready (Scoped scope) = (taken ready (list-own scope)).ready
-  opened-ready Greedy = (taken ready greedy-own).ready
-  opened-ready OneItem = ready
-
-  pub opened-next : (e : Extent) → NextIf e t p → NextIf e t (opened e p)
-  opened-next (Scoped scope) next = tt
-  opened-next Greedy next = tt
-  opened-next OneItem next = next
-
   -- an extent's rule, and the rule of its loop, inside the node
   abbrev whole : Extent → Rule
   whole e n d = inside_of t e n (spec.content (flat n) (source_of t) (inner_at t n d))
@@ -135,22 +117,23 @@ module _ {t : Tables} {p : Parser} {m : Buffers} (ready : Ready t p m) where
 
   -- the loop's state at its begin is the one that the extent opens
   abbrev Looped : Extent → Parser → Step → Buffers → Type 0
-  Looped e begun r x = Runs t (gain_of e) (λ n d. loop e n d (pos_of begun m)) begun m r x
+  Looped e begun r x = Came t (gain_of e) (loop e) begun m r x
 
   abbrev Read : Extent → Step → Buffers → Type 0
-  Read e r x = Runs t (gain_of e) (λ n d. whole e n d (pos_of p m)) p m r x
+  Read e r x = Came t (gain_of e) (whole e) p m r x
 
   module _ (r : Step) (x : Buffers) where
-    stops_at : (e : Extent) → Looped e (opened e p) r x → Stopped r → Read e r x
+    stops_at : {refused : Refused} {s : Step} (e : Extent) → Looped e (opened e p) r x → r ≡ Err refused → HandsOn s refused → Read e s x
     unfolding list-own greedy-own
-    stops_at (Scoped scope) read st = own_stops ready (list-own scope) read st
-    stops_at Greedy read st = own_stops ready greedy-own read st
-    stops_at OneItem read st = read
+    stops_at (Scoped scope) read st hands = own_stops ready (list-own scope) read st hands
+    stops_at Greedy read st hands = own_stops ready greedy-own read st hands
+    stops_at OneItem read st hands = rw (handed hands) (rw st at read)
 
-    pub inside_stops : (e : Extent) {begun : Parser} → begun ≡ opened e p → Looped e begun r x → Stopped r → Read e r x
-    inside_stops e is read st = stops_at e (rw is at read) st
+    pub inside_stops : {refused : Refused} {s : Step} (e : Extent) {begun : Parser} → begun ≡ opened e p → Looped e begun r x → r ≡ Err refused
+        → HandsOn s refused → Read e s x
+    inside_stops e is read st hands = stops_at e (rw is at read) st hands
 
-    closes_at : (q : Parser) → r ≡ Went q → (e : Extent) → Looped e (opened e p) r x → Read e (Went (closed e p q)) x
+    closes_at : (q : Parser) → r ≡ Ok q → (e : Extent) → Looped e (opened e p) r x → Read e (Ok (closed e p q)) x
     unfolding list-own greedy-own
     closes_at q went_on (Scoped scope) read =
         own_closes ready (list-own scope) read went_on p.list refl ready.steady.start ready.steady.last (λ n d. refl)
@@ -161,6 +144,6 @@ module _ {t : Tables} {p : Parser} {m : Buffers} (ready : Ready t p m) where
         (taken_ok p.list.start p.builder ready.steady.start) (no_mark_lem p.builder) (λ n d. rw (kept_again p.list.start) refl)
     closes_at q went_on OneItem read = rw went_on at read
 
-    pub inside_closes : (q : Parser) → r ≡ Went q → (e : Extent) {begun : Parser} → begun ≡ opened e p
-        → Looped e begun r x → Read e (Went (closed e p q)) x
+    pub inside_closes : (q : Parser) → r ≡ Ok q → (e : Extent) {begun : Parser} → begun ≡ opened e p
+        → Looped e begun r x → Read e (Ok (closed e p q)) x
     inside_closes q went_on e is read = closes_at q went_on e (rw is at read)

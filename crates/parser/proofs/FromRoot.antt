@@ -1,4 +1,6 @@
 -- The root's walk: it begins where no node is open, so its first step is taken by itself; the others are a routine's. Assumes nothing.
+use Rattle.syntax.specs.declared.refusal.Refused.{Refused}
+use Rattle.std.specs.Prelude.{Ok, Err}
 use mathlib.Core.Path.{◌≡◌, refl, ap, ◌∙◌}
 use mathlib.Core.List.{List, [], ◌∷◌}
 use Prim.Native.Nat.{ℕ, ◌+◌, ◌≤◌}
@@ -16,11 +18,9 @@ use Rattle.rules.specs.Scope as scopes
 use Rattle.rules.specs.SyntaxKind as kinds
 use Rattle.lexer.proofs.Laws.{start_fine}
 use Rattle.state.specs.Contract.{Steady, Begun, Ended, Opens}
-use Rattle.state.specs.Stands.{Buffers, Here, pos_of, out_of}
+use Rattle.state.specs.Stands.{Step, Buffers, Here, pos_of, out_of}
 use Rattle.state.specs.declared.Parser.{Parser}
-use Rattle.state.specs.declared.Step.{Step}
-use Rattle.state.specs.declared.Step.TheVariants.{Went, Refused}
-use Rattle.state.proofs.Walk.{Rule, line, Walk, Call, Stopped, stop, stopped, gone_map, passed_then, steps_on, stops-is}
+use Rattle.state.proofs.Walk.{HandsOn, handed, Rule, line, Walk, Call, stop, gone_map, passed_then, steps_on, stops-is}
 use Rattle.parser.specs.Member.{inner_at}
 use Rattle.state.proofs.Marks.{no_mark_lem}
 use Rattle.parser.specs.Root.{at_root, Readable, Written, Parsed}
@@ -57,7 +57,7 @@ root-steady readable =
 
 -- the root was opened
 pub roots : {t : Tables} {f : ℕ → Here → Out Here} {rest : List Rule} {s : Parser} {m : Buffers} {r : Step} {x : Buffers} {z : Parser}
-    → Steady t s m → Opens f s m r x → r ≡ Went z → Walk t (line ((λ n d. f n) ∷ rest)) rest 0 1 s.list.scope s m z x
+    → Steady t s m → Opens f s m r x → r ≡ Ok z → Walk t (line ((λ n d. f n) ∷ rest)) rest 0 1 s.list.scope s m z x
 unfolding line
 roots {t} {f} {rest} {s} {m} {r} {x} {z} steady k e =
     let told = k.told t steady in
@@ -79,20 +79,23 @@ last_is : {t : Tables} {rule f : Rule} {gain : ℕ} {scope : ℕ} {s : Parser} {
     {x : Buffers} (r : Step) → Walk t rule (f ∷ []) gain 1 scope s m u v → Call t f 1 Q u v r x
     → (d : ℕ) → nodes ≤ s.builder.depth + d → rule (length m.tree) d (pos_of s m) ≡ out_of r x
 unfolding line
-last_is (Went q) w k d h = steps_on w k refl d h
-last_is {x = x} (Refused number place) w k d h = stops-is w k ((number, (place, tt)), refl) x d h
+last_is (Ok q) w k d h = steps_on w k refl d h
+last_is {x = x} (Err e) w k d h = stops-is w k refl x d h
 
 module _ {t : Tables} {m : Buffers} {r : Step} {x : Buffers} where
   -- the root was not opened
-  pub root-refused : {v : Buffers} → Steady t at_root m → Opens (λ n. position.start (flat n) kinds.ScopeRoot) at_root m r v → Stopped r
-      → Parsed t m r x
+  pub root-refused : {v : Buffers} {e : Refused} {s : Step} → Steady t at_root m
+      → Opens (λ n. position.start (flat n) kinds.ScopeRoot) at_root m r v → r ≡ Err e → HandsOn s e → Parsed t m s x
   unfolding line
-  root-refused {v} steady k st = record { is = plan_is t m (length m.tree) ∙ stop _ _ _ v x (k.told t steady).is st; gone = stopped _ _ st }
+  root-refused {v} steady k st hands =
+      rw (handed hands) (record { is = plan_is t m (length m.tree) ∙ stop _ _ v x (k.told t steady).is st; gone = tt })
 
   -- a step inside it was refused
-  pub parsed_refused : {f : Rule} {rest : List Rule} {gain : ℕ} {scope : ℕ} {u : Parser} {v y : Buffers} {Q : Parser → Type 0}
-      → Walk t (line (plan t)) (f ∷ rest) gain 1 scope at_root m u v → Call t f 1 Q u v r y → Stopped r → Parsed t m r x
-  parsed_refused w k st = record { is = plan_is t m (length m.tree) ∙ stops-is w k st x nodes (omega arith); gone = stopped _ _ st }
+  pub parsed_refused : {e : Refused} {o : Step} {f : Rule} {rest : List Rule} {gain scope : ℕ} {u : Parser} {v y : Buffers} {Q : Parser → Type 0}
+      → Walk t (line (plan t)) (f ∷ rest) gain 1 scope at_root m u v → Call t f 1 Q u v r y → r ≡ Err e → HandsOn o e
+      → Parsed t m o x
+  parsed_refused w k st hands =
+      rw (handed hands) (record { is = plan_is t m (length m.tree) ∙ stops-is w k st x nodes (omega arith); gone = tt })
 
   -- the root was ended
   pub parsed : {f : Rule} {gain : ℕ} {scope : ℕ} {u : Parser} {v : Buffers} {first node : ℕ}

@@ -1,5 +1,7 @@
 -- A loop of items. A list's invariant is the walk so far, with turns enough for what is left to read; where one item is read, it is that nothing is
 -- read before it, and all behind it. Assumes nothing.
+use Rattle.syntax.specs.declared.refusal.Refused.{Refused}
+use Rattle.std.specs.Prelude.{Ok, Err}
 use mathlib.Core.Path.{◌≡◌, refl, sym, ap, ◌∙◌}
 use mathlib.Core.Bool.{Bool, true, false, true≢false, false≢true}
 use mathlib.Core.List.{[], ◌∷◌}
@@ -16,19 +18,17 @@ use Rattle.lexer.specs.Reading.{cursor_of}
 use Rattle.lexer.proofs.Laws.{left-some}
 use Rattle.syntax.specs.ParseScope.{scope_at}
 use lib.ListN.{length}
-use Rattle.state.specs.Stands.{Buffers, Here, pos_of}
+use Rattle.state.specs.Stands.{Step, Buffers, Here, pos_of}
 use Rattle.state.specs.Change.{remarked}
 use Rattle.state.specs.Contract.{MarkOk, Ready, Left, Runs, left_of}
 use Rattle.state.specs.declared.Parser.{Parser}
-use Rattle.state.specs.declared.Step.{Step}
-use Rattle.state.specs.declared.Step.TheVariants.{Went}
 use Rattle.state.proofs.Building.{mark_more}
 use Rattle.routines.proofs.Eating.{asked-there}
-use Rattle.state.proofs.Walk.{Rule, line, last_step, Walk, begins, turns, passes, forgets, leaves, stops, arrives, Stopped}
+use Rattle.state.proofs.Walk.{HandsOn, handed, Rule, line, last_step, Walk, begins, turns, passes, forgets, leaves, stops, arrives}
 use Rattle.parser.specs.Member.{Next, NextIf, LastAfter, Behind, mark_here, goes_on, stops_of, more as more_of, gain_of, inner_at, list_items, items_of}
 use Rattle.parser.specs.declared.lists.Extent.{Extent}
 use Rattle.parser.specs.declared.lists.Extent.TheVariants.{List as Scoped, Greedy, Item as OneItem}
-use Rattle.parser.proofs.Cycle.{runs, remarks}
+use Rattle.parser.proofs.Cycle.{Came, runs, remarks}
 use Rattle.parser.proofs.Marks.{mark_here_lem}
 
 -- a step, a change that calls nothing, and the last step
@@ -103,11 +103,11 @@ module _ (t : Tables) (greedy : Bool) (p : Parser) (m : Buffers) where
       turn : Turn
       turn = turn_of far.fuel far.enough far.walk
 
-      module _ {r : Step} {x : Buffers} (read : Runs t 1 (λ n d. item t n d (pos_of q v)) q v r x) where
-        item_stops : {any : Buffers} → Stopped r → Runs t 0 (λ n d. body t greedy n d (pos_of p m)) p m r any
-        item_stops st = stops turn.walk (runs read) st
+      module _ {r : Step} {x : Buffers} (read : Came t 1 (item t) q v r x) where
+        item_stops : {any : Buffers} {e : Refused} {s : Step} → r ≡ Err e → HandsOn s e → Came t 0 (body t greedy) p m s any
+        item_stops st hands = rw (handed hands) (stops turn.walk (runs read) st)
 
-        module _ {z : Parser} (e : r ≡ Went z) where
+        module _ {z : Parser} (e : r ≡ Ok z) where
           -- the item was read
           after_item : Walk t (body t greedy) ((λ n d u. went (attaches n u)) ∷ more turn.fuel ∷ []) 1 0 p.list.scope p m z x
           after_item = passes turn.walk (runs read) e
@@ -115,7 +115,7 @@ module _ (t : Tables) (greedy : Bool) (p : Parser) (m : Buffers) where
           passed_item : Left t 1 q v z x
           passed_item = leaves turn.walk (runs read) e
 
-          module _ {y : Parser} (l : LastAfter t.tokens t.shapes q z y) where
+          module _ {y : Parser} (l : LastAfter t q z y) where
             -- a mark before the item is still inside
             mark_kept : (y.list.last ≡ z.list.last) ⊎ (y.list.last ≡ mark_here q) → MarkOk y.list.last z.builder
             mark_kept =
@@ -124,7 +124,7 @@ module _ (t : Tables) (greedy : Bool) (p : Parser) (m : Buffers) where
                 (λ moved. rw moved (mark_more (mark_here q) q.builder z.builder passed_item.passed.rows (mark_here_lem far.walk.ready)))
 
             changed : (n d : ℕ) → went (attaches n (pos_of z x)) ≡ went (pos_of (remarked z z.list.start y.list.last) x)
-            changed n d = ap went (l.is t refl refl n v x) ∙ ap (λ u. went (pos_of u x)) l.same
+            changed n d = ap went (l.is n v x) ∙ ap (λ u. went (pos_of u x)) l.same
 
             items-go_on : Far y x
             items-go_on =
@@ -145,7 +145,7 @@ module _ (t : Tables) (greedy : Bool) (p : Parser) (m : Buffers) where
       ended zero n d = refl
       ended (suc fuel) n d = let asks : goes p.list.scope q ≡ false = rw far.walk.scope_is at no in rw asks
 
-      items-end : Runs t 0 (λ n d. body t greedy n d (pos_of p m)) p m (Went q) v
+      items-end : Came t 0 (body t greedy) p m (Ok q) v
       items-end = arrives (turns far.walk (ended far.fuel))
 
 -- ---- one item
@@ -154,7 +154,7 @@ module _ (t : Tables) (p : Parser) (m : Buffers) where
   -- before it, and behind it
   abbrev One : Bool → Parser → Buffers → Type 0
   One true q v = (q ≡ p) × (v ≡ m)
-  One false q v = Runs t 1 (λ n d. item t n d (pos_of p m)) p m (Went q) v
+  One false q v = Came t 1 (item t) p m (Ok q) v
 
 -- ---- as far as an extent goes
 
@@ -209,29 +209,30 @@ module _ (t : Tables) (p : Parser) (m : Buffers) where
     loop_there OneItem true l next goes = rw l.held.0 next
     loop_there OneItem false l next goes = absurd (false≢true goes)
 
-    pub loop_ends : (e : Extent) (first : Bool) → Loop e first q v → asks t q e first ≡ false → Read e (Went q) v
+    pub loop_ends : (e : Extent) (first : Bool) → Loop e first q v → asks t q e first ≡ false → Read e (Ok q) v
     loop_ends (Scoped scope) first l stays = items-end t false p m l.held stays
     loop_ends Greedy first l stays = items-end t true p m l.held stays
     loop_ends OneItem true l stays = absurd (true≢false stays)
     loop_ends OneItem false l stays = l.held
 
-    module _ {r : Step} {x : Buffers} (read : Runs t 1 (λ n d. item t n d (pos_of q v)) q v r x) where
-      pub loop_stops : (e : Extent) (first : Bool) → Loop e first q v → asks t q e first ≡ true → Stopped r → Read e r x
-      loop_stops (Scoped scope) first l goes st = item_stops t false p m l.held goes read st
-      loop_stops Greedy first l goes st = item_stops t true p m l.held goes read st
-      loop_stops OneItem true l goes st = rw (l.held.0, l.held.1) at read
-      loop_stops OneItem false l goes st = absurd (false≢true goes)
+    module _ {r : Step} {x : Buffers} (read : Came t 1 (item t) q v r x) where
+      pub loop_stops : {refused : Refused} {s : Step} (e : Extent) (first : Bool) → Loop e first q v → asks t q e first ≡ true → r ≡ Err refused
+          → HandsOn s refused → Read e s x
+      loop_stops (Scoped scope) first l goes st hands = item_stops t false p m l.held goes read st hands
+      loop_stops Greedy first l goes st hands = item_stops t true p m l.held goes read st hands
+      loop_stops OneItem true l goes st hands = rw (handed hands) (rw (l.held.0, l.held.1, st) at read)
+      loop_stops OneItem false l goes st hands = absurd (false≢true goes)
 
-      module _ {z : Parser} (y : Parser) (went_on : r ≡ Went z) where
+      module _ {z : Parser} (y : Parser) (went_on : r ≡ Ok z) where
         pub loop_goes_on : (e : Extent) (first : Bool) → Loop e first q v → asks t q e first ≡ true
-            → Behind e t.tokens t.shapes q z y → Loop e false y x
+            → Behind e t q z y → Loop e false y x
         loop_goes_on (Scoped scope) first l goes b = record { held = items-go_on t false p m l.held goes read went_on b }
         loop_goes_on Greedy first l goes b = record { held = items-go_on t true p m l.held goes read went_on b }
         loop_goes_on OneItem true l goes b = record { held = rw (l.held.0, l.held.1, went_on, ← b) at read }
         loop_goes_on OneItem false l goes b = absurd (false≢true goes)
 
         pub loop_less : (e : Extent) (first : Bool) → Loop e first q v → asks t q e first ≡ true
-            → Behind e t.tokens t.shapes q z y → left_of t y < left_of t q
+            → Behind e t q z y → left_of t y < left_of t q
         loop_less (Scoped scope) first l goes b = items-less t false p m l.held goes read went_on b
         loop_less Greedy first l goes b = items-less t true p m l.held goes read went_on b
         loop_less OneItem first l goes b = rw b (let passed = (rw went_on at read).gone.passed.read in omega arith)

@@ -1,7 +1,6 @@
 -- Marks that are made here, and what last is behind an item. Assumes nothing.
 use mathlib.Core.Path.{◌≡◌, refl}
 use mathlib.Core.Bool.{Bool, true, false}
-use mathlib.Core.List.{List}
 use mathlib.Core.Logic.{inl, inr}
 use Prim.Native.Nat.{ℕ, ◌<◌}
 use borrow.Author.Tests.{ne_eqb}
@@ -17,7 +16,7 @@ use Rattle.state.specs.Contract.{MarkOk, Ready}
 use Rattle.state.specs.Stands.{Buffers}
 use Rattle.state.specs.declared.KeptMark.{KeptMark}
 use Rattle.state.specs.declared.Parser.{Parser}
-use Rattle.parser.specs.Member.{LastAfter, mark_here, tables}
+use Rattle.parser.specs.Member.{LastAfter, mark_here}
 
 -- a mark that is made here
 pub mark_here_lem : {t : Tables} {p : Parser} {m : Buffers} → Ready t p m → MarkOk (mark_here p) p.builder
@@ -34,25 +33,15 @@ is_mark {p = p} ready = let node = ready.within.node in there p (omega arith)
 abbrev pub attached : ℕ → Shape → Bool
 attached kind shape = attachable kind (shape_for shape)
 
-module _ {tokens shapes : List ℕ} {shape : Shape} (p q : Parser)
-    (shape_is : (text states : List ℕ) → shape_for shape ≡ shape_of (tables text tokens shapes states) p.lexer.token) where
+module _ (t : Tables) {shape : Shape} (p q : Parser) (shape_is : shape_for shape ≡ shape_of t p.lexer.token) where
   -- the rule's question has the code's answer
-  asks : (t : Tables) → t.tokens ≡ tokens → t.shapes ≡ shapes → (b : Bool) → attached (kind_at tokens p.lexer.token) shape ≡ b
-      → attachable (kind_at t.tokens p.lexer.token) (shape_of t p.lexer.token) ≡ b
-  asks t seen-tokens seen-shapes b e =
-      let token = p.lexer.token in
-      let same : shape_of t token ≡ shape_of (tables t.text tokens shapes t.states) token = rw (← seen-tokens, ← seen-shapes) refl in
-      rw (same, ← shape_is t.text t.states, seen-tokens) e
+  asks : (b : Bool) → attached (kind_at t.tokens p.lexer.token) shape ≡ b → attachable (kind_at t.tokens p.lexer.token) (shape_of t p.lexer.token) ≡ b
+  asks b e = rw (← shape_is) e
 
-  pub last_moved : {mark : KeptMark} {r : Parser} → attached (kind_at tokens p.lexer.token) shape ≡ true → 0 < p.builder.rows
-      → mark ≡ mark_here p → r ≡ remarked q q.list.start mark → LastAfter tokens shapes p q r
+  pub last_moved : {mark : KeptMark} {r : Parser} → attached (kind_at t.tokens p.lexer.token) shape ≡ true → 0 < p.builder.rows
+      → mark ≡ mark_here p → r ≡ remarked q q.list.start mark → LastAfter t p q r
   last_moved said written mark-is r-is =
-      rw (r-is, mark-is)
-      (record {
-        is = λ t seen-tokens seen-shapes n m v. rw (asks t seen-tokens seen-shapes true said, there p written);
-        last = inr refl;
-        same = refl;
-      })
+      rw (r-is, mark-is) (record { is = λ n m v. rw (asks true said, there p written); last = inr refl; same = refl })
 
-  pub last_kept : attached (kind_at tokens p.lexer.token) shape ≡ false → LastAfter tokens shapes p q q
-  last_kept said = record { is = λ t seen-tokens seen-shapes n m v. rw (asks t seen-tokens seen-shapes false said); last = inl refl; same = refl }
+  pub last_kept : attached (kind_at t.tokens p.lexer.token) shape ≡ false → LastAfter t p q q
+  last_kept said = record { is = λ n m v. rw (asks false said); last = inl refl; same = refl }

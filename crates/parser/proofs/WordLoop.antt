@@ -1,8 +1,9 @@
 -- The loop over a Word's characters, inside the loop of arguments: while bytes of the Word are left they are what the cursor stands before, and each
 -- turn is a turn of the rule's one loop. Assumes nothing.
+use Rattle.syntax.specs.declared.refusal.Refused.{Refused}
 use mathlib.Core.Path.{◌≡◌, refl, sym, ap, ◌∙◌}
 use mathlib.Core.List.{List}
-use mathlib.Core.Option.{some}
+use Rattle.std.specs.Prelude.{Ok, Err, Some as some}
 use Prim.Native.Nat.{ℕ, ◌+◌, ◌≤◌, ◌<◌}
 use native.Mathlib.Omega.{arith}
 use lib.ListN.{length, drop, length-drop}
@@ -19,12 +20,10 @@ use Rattle.rules.specs.Token.{Word}
 use Rattle.lexer.specs.Reading.{cursor_of}
 use Rattle.lexer.proofs.Laws.{peek-some, rest_length_lem, consumed-part, further}
 use Rattle.syntax.specs.ParseScope.{scope_at}
-use Rattle.state.specs.Stands.{Buffers, pos_of}
+use Rattle.state.specs.Stands.{Step, Buffers, pos_of}
 use Rattle.state.specs.Contract.{Ready, Known, Ran, Runs, left_of}
 use Rattle.state.specs.declared.Parser.{Parser}
-use Rattle.state.specs.declared.Step.{Step}
-use Rattle.state.specs.declared.Step.TheVariants.{Went}
-use Rattle.state.proofs.Walk.{Stopped}
+use Rattle.state.proofs.Walk.{HandsOn}
 use Rattle.parser.specs.Member.{Next, inner_at, all_arguments}
 use Rattle.parser.proofs.Choices.{choose_word}
 use Rattle.parser.proofs.Cycle.{runs_as, ran-runs}
@@ -81,7 +80,7 @@ module _ (t : Tables) where
 
       -- a refused character ends both loops
       pub taking_ends : not_accepted ≡ match_next t.states m term
-          → Runs t 0 (λ n d. all_arguments t first n (inner_at t n d) (pos_of p b)) p b (Went q) v
+          → Runs t 0 (λ n d. all_arguments t first n (inner_at t n d) (pos_of p b)) p b (Ok q) v
       taking_ends e = arguments-end t p first b k.far (chosen e)
 
       -- what the routine for a character asks
@@ -92,10 +91,11 @@ module _ (t : Tables) where
         read : Runs t 1 (λ n d. spec.argument (flat n) (source_of t) (inner_at t n d) character (pos_of q v)) q v r x
         read = as_argument (refl, (k.before some_left).is) k.far.walk.ready ran
 
-        pub taking_stops : {any : Buffers} → Stopped r → Runs t 0 (λ n d. all_arguments t first n (inner_at t n d) (pos_of p b)) p b r any
-        taking_stops st = arguments-stop t p first b k.far (k.before some_left).there (chosen e) read st
+        pub taking_stops : {any : Buffers} {e : Refused} {s : Step} → r ≡ Err e → HandsOn s e
+            → Runs t 0 (λ n d. all_arguments t first n (inner_at t n d) (pos_of p b)) p b s any
+        taking_stops st hands = arguments-stop t p first b k.far (k.before some_left).there (chosen e) read st hands
 
-        module _ {z : Parser} (went_on : r ≡ Went z) where
+        module _ {z : Parser} (went_on : r ≡ Ok z) where
           -- less is left
           pub taking_less : left_of t z < left_of t q
           taking_less = arguments-take_less t p first b k.far (k.before some_left).there (chosen e) read went_on

@@ -1,6 +1,7 @@
 -- The contract of a member of the cycle, over the lists that the lent slices hold.
-use Rattle.std.specs.Prelude.{ℕ, ◌<◌, ◌≤◌, ◌/◌, Bool, true, false, cond, ◌⊎◌, ◌≡◌, List, length}
-use Rattle.std.proofs.Math.Option.{Option}
+use Rattle.std.specs.Prelude.{ℕ, ◌<◌, ◌≤◌, ◌/◌, Bool, true, false, cond, ◌⊎◌, ◌≡◌, Option, length}
+use Rattle.std.specs.Borrow.{Bor}
+use denote.Triple.Both.{Both}
 use Rattle.rules.specs.Checks.{Tables, source_of}
 use Rattle.rules.specs.Flat.{flat}
 use Rattle.rules.specs.Items.{greedy_stops}
@@ -12,19 +13,17 @@ use Rattle.rules.specs.Reading.{content, content_at, items, item_list, last_afte
 use Rattle.rules.specs.Routines.{turns}
 use Rattle.rules.specs.Scope.{Scope, stops}
 use Rattle.rules.specs.Tables.{token_count, shape_at}
-use Rattle.state.specs.Stands.{Buffers, Here, pos_of, mark_at, kept_of, mark_in, no_mark}
+use Rattle.state.specs.Stands.{Buffers, Here, Step, pos_of, mark_at, kept_of, mark_in, no_mark}
 use Rattle.state.specs.Change.{relisted, remarked}
-use Rattle.state.specs.Contract.{Runs, Slice, Seen, Moments}
+use Rattle.state.specs.Contract.{Runs, Moments}
 pub use Rattle.state.specs.Contract.{buffers, lent}
 use Rattle.state.specs.declared.KeptMark.{KeptMark}
 use Rattle.syntax.specs.ParseScope.{number_of, scope_of}
+pub use Rattle.syntax.specs.Tables.{tables, given}
+use Rattle.syntax.specs.declared.tables.Tables as code
 use Rattle.parser.specs.declared.lists.Extent.{Extent}
 use Rattle.parser.specs.declared.lists.Extent.TheVariants.{List as Scoped, Greedy, Item as OneItem}
 use Rattle.state.specs.declared.Parser.{Parser}
-use Rattle.state.specs.declared.Step.{Step}
-
-abbrev pub tables : List ℕ → List ℕ → List ℕ → List ℕ → Tables
-tables text tokens shapes states = record { text = text; tokens = tokens; shapes = shapes; states = states }
 
 -- a rule that takes the routine for items inside, over the room
 abbrev pub Inside : Type 0
@@ -44,20 +43,20 @@ Within t gain rule p m r v = Runs t gain (λ n d. rule n (content (flat n) (sour
 
 -- ---- the same over the parameters themselves: the tables, the buffers and the state, in the order of the code
 
--- the tables, at the entry
-abbrev pub given : Slice → Slice → Slice → Slice → Tables
-given text tokens shapes states = tables text.now tokens.now shapes.now states.now
+-- the tables as an `ensures` has them
+abbrev pub Seen : Type 0
+Seen = Both (Bor code.Tables) (Bor code.Tables)
 
 -- what a member that opens a node before it reads an item comes to
-abbrev pub Opened : Seen → Seen → Seen → Seen → Moments → Moments → Parser → Step → ℕ → (Tables → Inside) → Type 0
-Opened text tokens shapes states tree dropped p r gain rule =
-    let t = given text.entry tokens.entry shapes.entry states.entry in
+abbrev pub Opened : Seen → Moments → Moments → Parser → Step → ℕ → (Tables → Inside) → Type 0
+Opened tables tree dropped p r gain rule =
+    let t = given tables.entry in
     Opening t gain (rule t) p (lent tree.entry dropped.entry) r (lent tree.exit dropped.exit)
 
 -- what a member that reads items in the node that is open comes to
-abbrev pub Stayed : Seen → Seen → Seen → Seen → Moments → Moments → Parser → Step → ℕ → (Tables → Inside) → Type 0
-Stayed text tokens shapes states tree dropped p r gain rule =
-    let t = given text.entry tokens.entry shapes.entry states.entry in
+abbrev pub Stayed : Seen → Moments → Moments → Parser → Step → ℕ → (Tables → Inside) → Type 0
+Stayed tables tree dropped p r gain rule =
+    let t = given tables.entry in
     Within t gain (rule t) p (lent tree.entry dropped.entry) r (lent tree.exit dropped.exit)
 
 -- a token is next
@@ -80,14 +79,13 @@ abbrev pub mark_here : Parser → KeptMark
 mark_here p = kept_of (mark_at p)
 
 -- an item began at p: with a token, whose shape is in the table, in a node that is open
-abbrev pub Began : List ℕ → List ℕ → Parser → Type 0
-Began tokens shapes p =
-    (p.lexer.token < token_count tokens) × (shape_at tokens p.lexer.token ≤ length shapes / shape_width) × (0 < p.builder.rows)
+abbrev pub Began : Tables → Parser → Type 0
+Began t p =
+    (p.lexer.token < token_count t.tokens) × (shape_at t.tokens p.lexer.token ≤ length t.shapes / shape_width) × (0 < p.builder.rows)
 
 -- the state behind an item that began at p and ended at q: by the rule, and the list's scope and start are q's
-pub record LastAfter (tokens shapes : List ℕ) (p q r : Parser) : Type 0 where
-  pub is : (t : Tables) → t.tokens ≡ tokens → t.shapes ≡ shapes → (n : ℕ) (m v : Buffers)
-      → last_after (flat n) (source_of t) (pos_of p m) (pos_of q v) ≡ pos_of r v
+pub record LastAfter (t : Tables) (p q r : Parser) : Type 0 where
+  pub is : (n : ℕ) (m v : Buffers) → last_after (flat n) (source_of t) (pos_of p m) (pos_of q v) ≡ pos_of r v
   pub last : (r.list.last ≡ q.list.last) ⊎ (r.list.last ≡ mark_here p)
   pub same : r ≡ remarked q q.list.start r.list.last
 
@@ -128,10 +126,10 @@ closed Greedy p q = remarked q (kept_of (mark_in p.list.start)) no_mark
 closed OneItem p q = q
 
 -- the state behind an item
-abbrev pub Behind : Extent → (tokens shapes : List ℕ) (p q r : Parser) → Type 0
-Behind (Scoped scope) tokens shapes p q r = LastAfter tokens shapes p q r
-Behind Greedy tokens shapes p q r = LastAfter tokens shapes p q r
-Behind OneItem tokens shapes p q r = r ≡ q
+abbrev pub Behind : Extent → Tables → (p q r : Parser) → Type 0
+Behind (Scoped scope) t p q r = LastAfter t p q r
+Behind Greedy t p q r = LastAfter t p q r
+Behind OneItem t p q r = r ≡ q
 
 -- the items that a loop reads
 abbrev pub items_of : Tables → Extent → Inside

@@ -7,9 +7,8 @@ use Rattle.rules.specs.Reading.{parse}
 use Rattle.rules.specs.Tables.{token_count}
 use Rattle.syntax.specs.declared.parse_scope.ParseScope.TheVariants.{Root}
 use Rattle.state.specs.Contract.{Good, Gone}
-use Rattle.state.specs.Stands.{Buffers, list_at, out_of}
+use Rattle.state.specs.Stands.{Buffers, Step, list_at, out_of}
 use Rattle.state.specs.declared.Parser.{Parser}
-use Rattle.state.specs.declared.Step.{Step}
 
 -- before the first token: nothing is held, marked, built or dropped
 abbrev pub at_root : Parser

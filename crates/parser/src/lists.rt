@@ -4,12 +4,13 @@ ghost use Rattle.rules.specs.Cursor.{peek};
 ghost use Rattle.rules.specs.Position.{asked};
 ghost use Rattle.lexer.specs.Reading.{cursor_of};
 ghost use Rattle.syntax.specs.ParseScope.{scope_at};
+ghost use Rattle.syntax.specs.Tables.{given};
 ghost use Rattle.parser.specs.Member.{goes_on, Began, LastAfter, Behind, more, opened, closed};
 
 use items::{Shape, attachable, greedy_stops};
-use lexer::{Column, Peeked, cell};
-use state::{Mark, Parser};
-use syntax::ParseScope;
+use lexer::{Column, cell};
+use state::Parser;
+use syntax::{ParseScope, Tables};
 
 // How far is read: a new list of a scope, all that a greedy command takes, or one item. That all three go through one loop is only for speed:
 // see that heading in lib.rt.
@@ -24,8 +25,7 @@ pub enum Extent {
 fn goes_on(tokens: &[u32], p: Parser, greedy: bool) -> bool
     ensures { result ≡ asked (goes_on greedy (scope_at p.list.scope)) (peek tokens.now (cursor_of p.lexer)) }
 {
-    let peeked = p.lexer.peek(tokens);
-    let Peeked::Kind(kind) = peeked else {
+    let Some(kind) = p.lexer.peek(tokens) else {
         return false;
     };
     let scope = p.scope();
@@ -51,8 +51,8 @@ pub fn opened(p: Parser, extent: Extent) -> Parser
     ensures { result ≡ opened extent p }
 {
     match extent {
-        Extent::List(scope) => p.with_scope(scope, p.checkpoint(), Mark::Nothing),
-        Extent::Greedy => p.with_marks(p.checkpoint(), Mark::Nothing),
+        Extent::List(scope) => p.with_scope(scope, p.checkpoint(), None),
+        Extent::Greedy => p.with_marks(p.checkpoint(), None),
         Extent::Item => p,
     }
 }
@@ -64,32 +64,31 @@ pub fn closed(p: Parser, q: Parser, extent: Extent) -> Parser
     let list = p.list;
     match extent {
         Extent::List(_) => q.with_list(list),
-        Extent::Greedy => q.with_marks(p.list_start(), Mark::Nothing),
+        Extent::Greedy => q.with_marks(p.list_start(), None),
         Extent::Item => q,
     }
 }
 
 // The mark before an item that is attachable becomes last: p is where the item began, q where it ended.
-fn last_after(tokens: &[u32], shapes: &[u32], p: Parser, q: Parser) -> Parser
-    requires { Began tokens.now shapes.now p }
-    ensures { LastAfter tokens.now shapes.now p q result }
+fn last_after(tables: &Tables<'_>, p: Parser, q: Parser) -> Parser
+    requires { Began (given tables) p }
+    ensures { LastAfter (given tables.entry) p q result }
 {
     let token = p.lexer.token;
-    let shape = Shape::of_token(tokens, shapes, token);
-    if attachable(cell(tokens, token, Column::KIND), shape) {
+    let shape = Shape::of_token(tables.tokens, tables.shapes, token);
+    if attachable(cell(tables.tokens, token, Column::KIND), shape) {
         return q.with_last(p.checkpoint());
     }
     q
 }
 
 // The state behind an item: where one item is read, last is left alone.
-pub fn behind(tokens: &[u32], shapes: &[u32], p: Parser, q: Parser, extent: Extent) -> Parser
-    requires { Began tokens.now shapes.now p }
-    ensures { Behind extent tokens.now shapes.now p q result }
+pub fn behind(tables: &Tables<'_>, p: Parser, q: Parser, extent: Extent) -> Parser
+    requires { Began (given tables) p }
+    ensures { Behind extent (given tables.entry) p q result }
 {
     match extent {
-        Extent::List(_) => last_after(tokens, shapes, p, q),
-        Extent::Greedy => last_after(tokens, shapes, p, q),
+        Extent::List(_) | Extent::Greedy => last_after(tables, p, q),
         Extent::Item => q,
     }
 }

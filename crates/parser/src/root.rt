@@ -1,14 +1,15 @@
 // The root: `parse`, which reads all tokens from nothing.
 ghost use Rattle.std.specs.Prelude.{◌≡◌};
-ghost use Rattle.parser.specs.Member.{given, lent};
+ghost use Rattle.syntax.specs.Tables.{given};
+ghost use Rattle.parser.specs.Member.{lent};
 ghost use Rattle.parser.specs.Root.{at_root, Readable, Parsed};
 
 use crate::inside;
 use crate::lists::Extent;
 use builder::GreenNodeBuilder;
 use lexer::Lexer;
-use state::{ListState, Parser, Step};
-use syntax::{ParseScope, SyntaxKind};
+use state::{ListState, Parser};
+use syntax::{ParseScope, Refused, SyntaxKind, Tables};
 
 // Before the first token: nothing is held, marked, built or dropped.
 fn at_start() -> Parser
@@ -24,35 +25,13 @@ fn at_start() -> Parser
 }
 
 // The root, a list in it, its end.
-pub fn parse(
-    text: &[u8],
-    tokens: &[u32],
-    shapes: &[u32],
-    states: &[u32],
-    tree: &mut [u32],
-    dropped: &mut [u32],
-) -> Step
-    requires { Readable (given text tokens shapes states) dropped.old }
-    ensures { let t = given text.entry tokens.entry shapes.entry states.entry in
+pub fn parse(tables: &Tables<'_>, tree: &mut [u32], dropped: &mut [u32]) -> Result<Parser, Refused>
+    requires { Readable (given tables) dropped.old }
+    ensures { let t = given tables.entry in
         Parsed t (lent tree.entry dropped.entry) result (lent tree.exit dropped.exit) }
 {
     let p = at_start();
-    let opened = p.start_node(tree, SyntaxKind::SCOPE_ROOT);
-    let Step::Went(begun) = opened else {
-        return opened;
-    };
-    let listed = inside(
-        text,
-        tokens,
-        shapes,
-        states,
-        tree,
-        dropped,
-        begun,
-        Extent::List(ParseScope::Root),
-    );
-    let Step::Went(read) = listed else {
-        return listed;
-    };
-    read.finish_node(tree, SyntaxKind::SCOPE_ROOT, p.builder.frame())
+    let begun = p.start_node(tree, SyntaxKind::ScopeRoot)?;
+    let read = inside(tables, tree, dropped, begun, Extent::List(ParseScope::Root))?;
+    read.finish_node(tree, SyntaxKind::ScopeRoot, p.builder.frame())
 }

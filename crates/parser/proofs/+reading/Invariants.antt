@@ -7,7 +7,7 @@ use Rattle.arg_match.specs.Answers.{matcher_of}
 use Rattle.state.specs.Contract.{left_of, buffers}
 use Rattle.state.specs.Stands.{Buffers}
 use Rattle.state.specs.declared.Parser.{Parser}
-use Rattle.parser.specs.Member.{tables}
+use Rattle.syntax.specs.Tables.{tables_of}
 use Rattle.parser.proofs.ArgumentLoop.{Far}
 use Rattle.parser.proofs.ItemLoop.{Loop}
 use Rattle.parser.proofs.WordLoop.{Taking}
@@ -69,28 +69,28 @@ decreases-with_arguments l = ranked 0 l.p
 
 abbrev pub invariant-arguments-loop-word : goal.invariant-arguments-loop-word
 invariant-arguments-loop-word l =
-    let t = tables l.text l.tokens l.shapes l.states in
+    let t = tables_of l.tables in
     (p : Parser) (first : Matcher) (b : Buffers)
     → Far t p first b l.initial.now (matcher_of l.initial.matcher) (buffers l.initial.tree l.initial.dropped)
     → Taking t p first b l.initial.now l.now (matcher_of l.matcher) l.word (buffers l.tree l.dropped)
 
 abbrev pub decreases-arguments-loop-word : goal.decreases-arguments-loop-word
-decreases-arguments-loop-word l = left_of (tables l.text l.tokens l.shapes l.states) l.now
+decreases-arguments-loop-word l = left_of (tables_of l.tables) l.now
 
 abbrev pub invariant-arguments-arguments : goal.invariant-arguments-arguments
 invariant-arguments-arguments l =
-    Far (tables l.text l.tokens l.shapes l.states) l.initial.now (matcher_of l.initial.matcher) (buffers l.initial.tree l.initial.dropped) l.now
+    Far (tables_of l.tables) l.initial.now (matcher_of l.initial.matcher) (buffers l.initial.tree l.initial.dropped) l.now
     (matcher_of l.matcher) (buffers l.tree l.dropped)
 
 abbrev pub decreases-arguments-arguments : goal.decreases-arguments-arguments
-decreases-arguments-arguments l = left_of (tables l.text l.tokens l.shapes l.states) l.now
+decreases-arguments-arguments l = left_of (tables_of l.tables) l.now
 
 -- ---- the loop of `items`
 
 abbrev pub invariant-items-loop-extent : goal.invariant-items-loop-extent
 invariant-items-loop-extent l =
-    Loop (tables l.text l.tokens l.shapes l.states) l.initial.now (buffers l.initial.tree l.initial.dropped) l.extent l.first l.now
+    Loop (tables_of l.tables) l.initial.now (buffers l.initial.tree l.initial.dropped) l.extent l.first l.now
     (buffers l.tree l.dropped)
 
 abbrev pub decreases-items-loop-extent : goal.decreases-items-loop-extent
-decreases-items-loop-extent l = left_of (tables l.text l.tokens l.shapes l.states) l.now
+decreases-items-loop-extent l = left_of (tables_of l.tables) l.now

@@ -9,22 +9,21 @@ use Rattle.rules.specs.SyntaxKind as kinds
 use Rattle.state.specs.Contract.{Left, Opens, Closes, Steady}
 use Rattle.builder.specs.Stands as shown
 use Rattle.builder.specs.declared.Frame.{Frame}
-use Rattle.state.specs.Stands.{Buffers}
+use Rattle.state.specs.Stands.{Buffers, Step}
 use Rattle.state.specs.declared.Parser.{Parser}
-use Rattle.state.specs.declared.Step.{Step}
 use Rattle.state.proofs.Walk.{line, Walk, Call, passes, closes}
-use Rattle.parser.specs.Member.{tables, buffers}
+use Rattle.parser.specs.Member.{buffers, given, lent}
 use Rattle.parser.specs.Root.{at_root}
 use Rattle.parser.proofs.Cycle.{below}
 use Rattle.parser.proofs.FromRoot.{plan, root-steady, roots, root-refused, parsed_refused, parsed}
 use Rattle.parser.proofs.root.parse.Goals as goal
-use Rattle.parser.proofs.root.parse.Goals.{Start, After-start_node-opened, In-Went, After-inside-listed, In-Went-listed}
+use Rattle.parser.proofs.root.parse.Goals.{Start, After-start_node, In_ok-begun, After-inside, In_ok-read}
 
 abbrev tables_at : Start → Tables
-tables_at b = tables b.args.text.now b.args.tokens.now b.args.shapes.now b.args.states.now
+tables_at b = given b.args.tables
 
 abbrev buffers_at : Start → Buffers
-buffers_at b = buffers b.args.tree.now b.args.dropped.now
+buffers_at b = lent b.args.tree b.args.dropped
 
 -- the walk from the entry b, after so many steps
 abbrev Came : Start → ℕ → Parser → List ℕ → List ℕ → Type 0
@@ -51,44 +50,44 @@ ends_at : {p u : Parser} {frame : Frame} {r : Step} {tree after : List ℕ} (not
     → Ending (record { first = 0; node = 0 }) u r (buffers tree notes) (buffers after notes)
 ends_at notes e is k = rw (e, is) at (k notes)
 
-started : (c : After-start_node-opened)
-    → Opens (λ n. position.start (flat n) kinds.ScopeRoot) at_root (buffers_at (goal.at.After-start_node-opened c).Start) c.start_node-opened.result
-    (buffers c.start_node-opened.new.tree c.args.dropped.now)
-started c = begins_at _ _ _ _ c.args.dropped.now c.at_start-p.ensures c.start_node-opened.ensures
+started : (c : After-start_node)
+    → Opens (λ n. position.start (flat n) kinds.ScopeRoot) at_root (buffers_at (goal.at.After-start_node c).Start) c.start_node.result
+    (buffers c.start_node.new.tree c.args.dropped.now)
+started c = begins_at _ _ _ _ c.args.dropped.now c.at_start-p.ensures c.start_node.ensures
 
-begun : (c : In-Went) → Came (goal.at.In-Went c).Start 1 c.in-Went.begun c.start_node-opened.new.tree c.args.dropped.now
-begun c = roots (entry (goal.at.In-Went c).Start) (started (goal.at.In-Went c).After-start_node-opened) c.in-Went.is
+begun : (c : In_ok-begun) → Came (goal.at.In_ok-begun c).Start 1 c.in_ok-begun.begun c.start_node.new.tree c.args.dropped.now
+begun c = roots (entry (goal.at.In_ok-begun c).Start) (started (goal.at.In_ok-begun c).After-start_node) c.in_ok-begun.was
 
 -- the list, a level less
-list_read : (c : After-inside-listed)
-    → let b = (goal.at.After-inside-listed c).Start in
+list_read : (c : After-inside)
+    → let b = (goal.at.After-inside c).Start in
     Call (tables_at b) (λ n d. spec.item_list (flat n) (source_of (tables_at b)) (spec.content_at (flat n) (source_of (tables_at b)) d) Scope.Root) 1
-    (λ q. Left (tables_at b) 0 c.in-Went.begun (buffers c.start_node-opened.new.tree b.args.dropped.now) q
-    (buffers c.inside-listed.new.tree c.inside-listed.new.dropped))
-    c.in-Went.begun (buffers c.start_node-opened.new.tree b.args.dropped.now) c.inside-listed.result
-    (buffers c.inside-listed.new.tree c.inside-listed.new.dropped)
+    (λ q. Left (tables_at b) 0 c.in_ok-begun.begun (buffers c.start_node.new.tree b.args.dropped.now) q
+    (buffers c.inside.new.tree c.inside.new.dropped))
+    c.in_ok-begun.begun (buffers c.start_node.new.tree b.args.dropped.now) c.inside.result
+    (buffers c.inside.new.tree c.inside.new.dropped)
 unfolding spec.content_at
-list_read c = let w = begun (goal.at.After-inside-listed c).In-Went in below (omega arith) c.inside-listed.ensures
+list_read c = let w = begun (goal.at.After-inside c).In_ok-begun in below (omega arith) c.inside.ensures
 
-listed : (c : In-Went-listed) → Came (goal.at.In-Went-listed c).Start 2 c.in-Went-listed.read c.inside-listed.new.tree c.inside-listed.new.dropped
-listed c = passes (begun (goal.at.In-Went-listed c).In-Went) (list_read (goal.at.In-Went-listed c).After-inside-listed) c.in-Went-listed.is
+listed : (c : In_ok-read) → Came (goal.at.In_ok-read c).Start 2 c.in_ok-read.read c.inside.new.tree c.inside.new.dropped
+listed c = passes (begun (goal.at.In_ok-read c).In_ok-begun) (list_read (goal.at.In_ok-read c).After-inside) c.in_ok-read.was
 
-pub returns-in_default : goal.returns-in_default
-returns-in_default c =
-    root-refused (entry (goal.at.returns-in_default c).Start) (started (goal.at.returns-in_default c).After-start_node-opened)
-    ((_, (_, tt)), c.in_default.is)
+pub returns-in_err-begun : goal.returns-in_err-begun
+returns-in_err-begun c =
+    root-refused (entry (goal.at.returns-in_err-begun c).Start) (started (goal.at.returns-in_err-begun c).After-start_node)
+    c.in_err-begun.was c.from_residual.ensures
 
-pub inside-listed-requires : goal.inside-listed-requires
-inside-listed-requires c = ((begun (goal.at.inside-listed-requires c).In-Went).ready, tt)
+pub inside-requires : goal.inside-requires
+inside-requires c = ((begun (goal.at.inside-requires c).In_ok-begun).ready, tt)
 
-pub returns-in_default-listed : goal.returns-in_default-listed
-returns-in_default-listed c =
-    parsed_refused (begun (goal.at.returns-in_default-listed c).In-Went) (list_read (goal.at.returns-in_default-listed c).After-inside-listed)
-    ((_, (_, tt)), c.in_default-listed.is)
+pub returns-in_err-read : goal.returns-in_err-read
+returns-in_err-read c =
+    parsed_refused (begun (goal.at.returns-in_err-read c).In_ok-begun) (list_read (goal.at.returns-in_err-read c).After-inside)
+    c.in_err-read.was c.from_residual-in_err-read.ensures
 
 pub finish_node-requires : goal.finish_node-requires
-finish_node-requires c = let w = listed (goal.at.finish_node-requires c).In-Went-listed in (w.ready.steady.fits, w.ready.within)
+finish_node-requires c = let w = listed (goal.at.finish_node-requires c).In_ok-read in (w.ready.steady.fits, w.ready.within)
 
 pub returns : goal.returns
 returns c =
-    parsed (listed (goal.at.returns c).In-Went-listed) (closes (ends_at _ c.frame.ensures c.at_start-p.ensures c.finish_node.ensures))
+    parsed (listed (goal.at.returns c).In_ok-read) (closes (ends_at _ c.frame.ensures c.at_start-p.ensures c.finish_node.ensures))
