@@ -1,4 +1,5 @@
 -- What the proofs of several functions use, and what other crates cite.
+pub mod Delimiters
 pub mod Formulas
 pub mod Nodes
 pub mod OnTrees

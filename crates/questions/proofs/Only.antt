@@ -1,17 +1,14 @@
--- The contracts fix what they speak of: two results that meet one are equal (crates/syntax/proofs/Only.antt). Each equates the result, or the row or
--- the range that it stands for, with a rule's value; a leaf's text is fixed by its bytes and its place. Assumes nothing.
+-- The contracts fix what they speak of: two results that meet one are equal (crates/syntax/proofs/Only.antt). Each equates the result, or the range
+-- that it stands for, with a rule's value; a leaf's text is fixed by its bytes and its place. Assumes nothing.
 use Prim.Native.Nat.{ℕ}
 use mathlib.Core.List.{List}
-use mathlib.Core.Option.{Option, none, some}
 use mathlib.Core.Path.{◌≡◌, refl, sym, ◌∙◌}
 use denote.Ref.{Bor}
 use Rattle.rules.specs.Questions.{Range}
 use Rattle.syntax.proofs.Only.{Only, equal, stands}
 use Rattle.questions.specs.Contract.{LeafText}
-use Rattle.questions.specs.Stands.{range_of, found_of}
+use Rattle.questions.specs.Stands.{range_of}
 use Rattle.questions.specs.declared.leaf.LeafRange.{LeafRange}
-use Rattle.questions.specs.declared.tokens.Found.{Found}
-use Rattle.questions.specs.declared.tokens.Found.TheVariants.{At, Nothing}
 use Rattle.questions.proofs.delimiter.is_delimiter.Reads as is-delimiter
 use Rattle.questions.proofs.formula.is_display.Reads as is-display
 use Rattle.questions.proofs.formula.is_inline.Reads as is-inline
@@ -33,16 +30,8 @@ questions = (equal, equal, equal, equal, equal)
 pub equations : Only is-delimiter.Post × Only matched.Post × Only cell.Post × Only tagged.Post
 equations = (equal, equal, equal, equal)
 
-abbrev found : Option ℕ → Found
-found (some row) = At row
-found none = Nothing
-
-from_found : (f : Found) → found (found_of f) ≡ f
-from_found (At row) = refl
-from_found Nothing = refl
-
 pub only_found : Only formula.Post × Only first-token.Post × Only last-token.Post
-only_found = (stands found_of found from_found, stands found_of found from_found, stands found_of found from_found)
+only_found = (equal, equal, equal)
 
 abbrev range : Range → LeafRange
 range r = record { start = r.start; size = r.size }

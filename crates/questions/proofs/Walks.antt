@@ -1,15 +1,14 @@
--- What each walk over the rows, or over two texts, comes to where it stands: by what is there, the walk from the next place on, or its end.
--- Assumes nothing.
+-- What each walk over the rows comes to where it stands: by what is there, the walk from the next place on, or its end. Assumes nothing.
 use Prim.Native.Nat.{ℕ, ◌+◌, ◌-◌, ◌<◌}
 use mathlib.Core.Bool.{cond}
 use mathlib.Core.List.{List}
-use mathlib.Core.Option.{none, some}
+use Rattle.std.specs.Prelude.{None as none, Some as some}
 use mathlib.Core.Path.{◌≡◌, refl}
 use lib.Dec.{eqb, ltb}
 use Rattle.std.proofs.lemmas.Bool.Decides.{nat_tests}
 use Rattle.rules.specs.Flat.{tag_start, tag_finish}
 use Rattle.rules.specs.Questions.{tag_at, open_after, balance, descend, first_from, last_before}
-use Rattle.rules.proofs.Questions.{one_more, open_after_most, balance-end, first_next, first-end, last_next, last_end, same-lengths, same_next, same_end}
+use Rattle.rules.proofs.Questions.{one_more, open_after_most, balance-end, first_next, first-end, last_next, last_end}
 
 pub balance_next : (tree : List ℕ) (rows at deep : ℕ) → at < rows
     → balance tree (rows - at) at deep
@@ -32,5 +31,3 @@ pub ruleset balances = (balance_next, balance-end, open_after_most, nat_tests)
 pub ruleset first_rows = (first_row, first-end, nat_tests)
 
 pub ruleset last_rows = (last_row, last_end, nat_tests)
-
-pub ruleset bytes = (same-lengths, same_next, same_end, nat_tests)

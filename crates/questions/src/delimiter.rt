@@ -1,44 +1,63 @@
-// Whether a token is one of the delimiters of a formula.
+// The delimiters of a formula, and whether a token is one of them.
 ghost use Rattle.std.specs.Prelude.{◌≡◌};
-ghost use Rattle.rules.specs.Questions.{same, leaf_at, is_delimiter};
-ghost use Rattle.questions.specs.Stands.{found_of};
+ghost use Rattle.rules.specs.Questions.{leaf_at, is_delimiter};
+ghost use Rattle.syntax.specs.SyntaxKind.{number_of};
+ghost use Rattle.questions.specs.Stands.{delimiter_of};
 
 use crate::leaf::{is_leaf, leaf_text};
 use crate::rows::{Column, cell};
-use crate::tokens::Found;
+use syntax::SyntaxKind;
 
-// Whether two texts are the same.
-#[tactic(auto, using(crate::proofs::Walks::bytes))]
-fn same(one: &[u8], other: &[u8]) -> bool
-    ensures { result ≡ same one.now other.now }
-{
-    if one.len() != other.len() {
-        return false;
-    }
-    let mut i = 0;
-    while i < one.len() {
-        if one[i] != other[i] {
-            return false;
-        }
-        i += 1;
-    }
-    true
+#[derive(Clone, Copy)]
+pub enum Delimiter {
+    // `$`
+    Dollar,
+    // `$$`
+    Dollars,
+    // `\(` and `\)`
+    BeginInline,
+    EndInline,
+    // `\[` and `\]`
+    BeginDisplay,
+    EndDisplay,
 }
 
-// Whether a token lies inside the text, is of this kind and has these bytes.
-pub fn is_delimiter(text: &[u8], tree: &[u32], token: Found, kind: u32, bytes: &[u8]) -> bool
-    ensures { result ≡ is_delimiter text.now
-        (record { kind = kind; bytes = bytes.now })
-        (leaf_at tree.now (found_of token)) }
+impl Delimiter {
+    // The kind of a token that is the delimiter.
+    fn kind(self) -> SyntaxKind
+        ensures { number_of result ≡ (delimiter_of self).kind }
+    {
+        match self {
+            Self::Dollar | Self::Dollars => SyntaxKind::TokenDollar,
+            Self::BeginInline | Self::BeginDisplay => SyntaxKind::TokenBeginMath,
+            Self::EndInline | Self::EndDisplay => SyntaxKind::TokenEndMath,
+        }
+    }
+
+    // Its text.
+    fn bytes(self) -> &'static [u8]
+        ensures { result.now ≡ (delimiter_of self).bytes }
+    {
+        match self {
+            Self::Dollar => b"$",
+            Self::Dollars => b"$$",
+            Self::BeginInline => b"\\(",
+            Self::EndInline => b"\\)",
+            Self::BeginDisplay => b"\\[",
+            Self::EndDisplay => b"\\]",
+        }
+    }
+}
+
+// Whether a token lies inside the text, is of the delimiter's kind and has its bytes.
+#[tactic(auto, using(crate::proofs::Delimiters::delimiters), unfolding(rules::specs::Questions::is_delimiter))]
+pub fn is_delimiter(text: &[u8], tree: &[u32], token: Option<usize>, delimiter: Delimiter) -> bool
+    ensures { result ≡ is_delimiter text.now (delimiter_of delimiter) (leaf_at tree.now token) }
 {
-    let Found::At(row) = token else {
+    let Some(row) = token else {
         return false;
     };
-    if is_leaf(text, tree, row) {
-        if cell(tree, row, Column::KIND) != kind {
-            return false;
-        }
-        return same(leaf_text(text, tree, row), bytes);
-    }
-    false
+    is_leaf(text, tree, row)
+        && cell(tree, row, Column::Kind) == delimiter.kind().number()
+        && leaf_text(text, tree, row) == delimiter.bytes()
 }

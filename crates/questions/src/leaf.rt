@@ -21,8 +21,8 @@ fn range_at(tree: &[u32], row: usize) -> LeafRange
     ensures { (range_of result ≡ range_at tree.now row) × (result.start < 2 ^ 32) × (result.size < 2 ^ 32) }
 {
     LeafRange {
-        start: cell(tree, row, Column::START) as usize,
-        size: cell(tree, row, Column::LENGTH) as usize,
+        start: cell(tree, row, Column::Start) as usize,
+        size: cell(tree, row, Column::Length) as usize,
     }
 }
 
@@ -31,13 +31,11 @@ fn range_at(tree: &[u32], row: usize) -> LeafRange
 pub fn is_leaf(text: &[u8], tree: &[u32], row: usize) -> bool
     ensures { result ≡ is_leaf text.now tree.now row }
 {
-    if tagged(Tag::LEAF, tree, row) {
-        let range = range_at(tree, row);
-        let start = range.start;
-        let size = range.size;
-        return start + size <= text.len();
+    if !tagged(Tag::Leaf, tree, row) {
+        return false;
     }
-    false
+    let range = range_at(tree, row);
+    range.start + range.size <= text.len()
 }
 
 // Where the text of a leaf stands. For a leaf outside the text, another row or no row: nothing at the text's start.
@@ -52,6 +50,7 @@ pub fn leaf_range(text: &[u8], tree: &[u32], row: usize) -> LeafRange
 }
 
 // The text of a leaf: that part of the caller's text itself, or the empty part at its start.
+#[tactic(auto, unfolding(rules::specs::Questions::leaf_text))]
 pub fn leaf_text<'a>(text: &'a [u8], tree: &[u32], row: usize) -> &'a [u8]
     ensures { LeafText text.entry tree.now row result }
 {

@@ -8,7 +8,7 @@ use lib.ListN.{length, get_or, drop, drop_of_length-le}
 use lib.Seq.{drop-cons}
 use Rattle.rules.specs.Patterns.{Class, run}
 use Rattle.rules.proofs.Table.{table, at}
-use Rattle.tokeniser.specs.Bytes.{digit, Tells, Ascii, RunEnds}
+use Rattle.tokeniser.specs.Bytes.{digit, Tells}
 use Rattle.tokeniser.specs.declared.class.Bits.{Bits}
 
 pub by_test : (of : Class) (bits : Bits) → table 128 (digit bits) ≡ table 128 of → Tells of bits
@@ -33,30 +33,5 @@ module _ (of : Class) (text : List ℕ) (at : ℕ) where
   unfolding run
   no_more past = rw (drop_of_length-le text past)
 
--- the run that begins at `from` goes on at `at`
-pub record Runs (text : List ℕ) (from : ℕ) (bits : Bits) (at : ℕ) : Type 0 where
-  pub inside : at ≤ length text
-  pub is : (of : Class) → Tells of bits → from + run of (drop from text) ≡ at + run of (drop at text)
-
-module _ {text : List ℕ} {from at : ℕ} {bits : Bits} (runs : Runs text from bits at) where
-  pub run-again : Ascii text → at < length text → digit bits (get_or text at 0) ≡ true → Runs text from bits (at + 1)
-  run-again ascii there is =
-      record {
-        inside = omega arith;
-        is =
-            λ of tells.
-            let one_more = goes_on of text at there (sym (tells.byte _ (ascii.byte at there)) ∙ is) in
-            runs.is of tells ∙ ap (λ (n : ℕ). at + n) one_more ∙ omega arith;
-      }
-
-  pub run_ends : Ascii text → at < length text → digit bits (get_or text at 0) ≡ false → RunEnds text from bits at
-  run_ends ascii there is =
-      record {
-        is =
-            λ of tells.
-            let None-more = ends of text at there (sym (tells.byte _ (ascii.byte at there)) ∙ is) in
-            omega (arith, runs.is of tells, None-more);
-      }
-
-  pub text-ends : length text ≤ at → RunEnds text from bits at
-  text-ends past = record { is = λ of tells. omega (arith, runs.is of tells, no_more of text at past) }
+-- what proves the goals of `run_end`
+pub ruleset runs = (goes_on, ends, no_more)

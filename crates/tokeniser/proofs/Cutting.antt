@@ -1,7 +1,9 @@
 -- The text is cut from its start: what is left at a place has one token more, and then what is left behind it. Assumes nothing.
 use Prim.Native.Nat.{ℕ, suc, ◌+◌, ◌*◌, ◌≤◌, ◌<◌}
 use mathlib.Core.Path.{◌≡◌, refl, sym, ap, ◌∙◌}
-use mathlib.Core.Bool.{Bool, true, false, cond}
+use mathlib.Core.Bool.{cond}
+use lib.Dec.{leb}
+use borrow.Author.Tests.{le-leb}
 use mathlib.Core.List.{List, [], ◌∷◌, ◌++◌, append_assoc, append-nil}
 use native.Mathlib.Omega.{arith}
 use lib.ListN.{length, take, drop, take-append-drop}
@@ -9,7 +11,6 @@ use lib.Seq.{drop-drop, length-take-le}
 use Rattle.rules.specs.Limits.{token_width}
 use Rattle.rules.specs.Run.{over}
 use Rattle.rules.specs.Tokeniser.{Lexeme, lexeme, tokens_of, rows_from, token_rows}
-use Rattle.rules.proofs.Characters.{either}
 use Rattle.rules.proofs.TokensOf.{size_at, tokens-at, none_left}
 use Rattle.builder.specs.Contract.{written}
 use Rattle.builder.proofs.Numbers as numbers
@@ -91,47 +92,44 @@ module _ (text : List ℕ) where
       let size : length front ≡ row * token_width = length-take-le (row * token_width) rows fit in
       sym (take-append-drop (row * token_width) rows) ∙ rw (all, size, so_far.rest)
 
-  -- ---- so many tokens were gone through: they were only counted, or their rows were written
-  pub record Went (counting : Bool) (before rows : List ℕ) (at row : ℕ) : Type 0 where
+  -- ---- so many tokens were gone through: if there is room for all of their rows, these were written
+  abbrev pub Room : List ℕ → Type 0
+  Room before = length (tokens_of text) * token_width ≤ length before
+
+  pub record Went (before rows : List ℕ) (at row : ℕ) : Type 0 where
     pub counted : Counted at row
     pub long : length rows ≡ length before
-    pub untouched : counting ≡ true → rows ≡ before
-    pub wrote : counting ≡ false → Wrote before rows at row
+    pub wrote : Room before → Wrote before rows at row
 
-  pub none_yet : (counting : Bool) (before : List ℕ) → Went counting before before 0 0
-  none_yet counting before =
+  pub none_yet : (before : List ℕ) → Went before before 0 0
+  none_yet before =
       record {
         counted = record { inside = omega arith; few = omega arith; is = omega arith };
         long = refl;
-        untouched = λ is. refl;
-        wrote = λ is. nothing_yet before;
+        wrote = λ enough. nothing_yet before;
       }
 
-  module _ {counting : Bool} {before rows : List ℕ} {at row : ℕ} (so_far : Went counting before rows at row) where
+  module _ {before rows : List ℕ} {at row : ℕ} (so_far : Went before rows at row) where
     -- a token is left, so there is room for its row
-    pub room : at < length text → length (tokens_of text) * token_width ≤ length before → row * token_width + token_width ≤ length rows
+    room : at < length text → Room before → row * token_width + token_width ≤ length rows
     room here enough = omega (arith, so_far.counted.is, ap length (tokens-at text at here), so_far.long, enough)
 
     pub goes_on :
         {v : List ℕ} (r : given.Lexeme) (here : at < length text) (stands : Stands at (lexeme (drop at text)) r)
-        → (counting ≡ false → length (tokens_of text) * token_width ≤ length before)
-        → v ≡ cond counting rows (written token_width row (numbers_of r) rows)
+        → v ≡ cond (leb (row * token_width + token_width) (length rows)) (written token_width row (numbers_of r) rows) rows
         → length v ≡ length rows
-        → Went counting before v r.end (row + 1)
-    goes_on r here stands enough stored same =
+        → Went before v r.end (row + 1)
+    goes_on r here stands stored same =
         record {
           counted = one_more so_far.counted here stands;
           long = same ∙ so_far.long;
-          untouched = λ is. stored ∙ rw is (so_far.untouched is);
-          wrote = λ is. one-row (so_far.wrote is) r here stands (room here (enough is)) (stored ∙ rw is);
+          wrote =
+              λ enough.
+              let fit = room here enough in
+              one-row (so_far.wrote enough) r here stands fit (stored ∙ rw (le-leb (row * token_width + token_width) (length rows) fit));
         }
 
-    pub at-the_end :
-        length text ≤ at
-        → (counting ≡ false → length (tokens_of text) * token_width ≤ length before)
-        → rows ≡ cond counting before (over (token_rows text) before)
+    pub at-the_end : length text ≤ at → Room before → rows ≡ over (token_rows text) before
     at-the_end past enough =
-        either counting (λ is. so_far.untouched is ∙ rw is)
-        (λ is.
         let all = all_counted so_far.counted past in
-        all_written (so_far.wrote is) past (omega (arith, all, so_far.long, enough is)) ∙ rw is)
+        all_written (so_far.wrote enough) past (omega (arith, all, so_far.long, enough))

@@ -1,39 +1,33 @@
 -- What a text comes to: refusal 11 before 1, and 1 wherever it is too long, has too many tokens, or too few rows are lent. Assumes nothing.
-use Prim.Native.Nat.{ℕ, ◌*◌, ◌≤◌, ◌<◌}
+use Prim.Native.Nat.{ℕ, ◌*◌, ◌≤◌}
 use mathlib.Core.Path.{◌≡◌, sym, ap, ◌∙◌}
 use mathlib.Core.Bool.{Bool, true, false, ◌&&◌, and-eq-true_iff}
 use mathlib.Core.List.{List}
-use mathlib.Core.Option.{none, some}
+use Rattle.std.specs.Prelude.{Some, None}
 use lib.Dec.{leb}
 use lib.ListN.{length}
-use borrow.Author.Tests.{lt-ltb, le-ltb, leb-true}
+use borrow.Author.Tests.{leb-true}
 use Rattle.rules.specs.Checks.{first_bad}
 use Rattle.rules.specs.Limits
 use Rattle.rules.specs.Run.{over}
 use Rattle.rules.specs.Tokeniser.{written, refused_at, not_ascii, is_ascii, tokens_of, token_rows, fits, judged, tokenise}
 use Rattle.rules.proofs.TokensOf.{tokens-few}
-use Rattle.tokeniser.specs.Answers.{place_in}
 
-module _ (text buffer : List ℕ) (place : ℕ) (is : first_bad (is_ascii text) (length text) 0 ≡ place_in text place) where
-  pub high : place < length text → (refused_at not_ascii place, buffer) ≡ tokenise text buffer
+module _ (text buffer : List ℕ) where
+  pub high : (place : ℕ) → Some place ≡ first_bad (is_ascii text) (length text) 0 → (refused_at not_ascii place, buffer) ≡ tokenise text buffer
   unfolding tokenise
-  high here =
-      let found : first_bad (is_ascii text) (length text) 0 ≡ some place = is ∙ rw (lt-ltb place (length text) here) in
-      sym (ap (judged text buffer) found)
+  high place is = sym (ap (judged text buffer) (sym is))
 
-  module _ (past : length text ≤ place) where
-    pub no_high : first_bad (is_ascii text) (length text) 0 ≡ none
-    no_high = is ∙ rw (le-ltb place (length text) past)
-
-    so : tokenise text buffer ≡ judged text buffer none
+  module _ (is : None ≡ first_bad (is_ascii text) (length text) 0) where
+    so : tokenise text buffer ≡ judged text buffer None
     unfolding tokenise
-    so = ap (judged text buffer) no_high
+    so = ap (judged text buffer) (sym is)
 
     pub refused : fits text (length buffer) ≡ false → (refused_at 1 0, buffer) ≡ tokenise text buffer
     refused other = sym (so ∙ rw other)
 
     pub fine : fits text (length buffer) ≡ true → (written (length (tokens_of text)), over (token_rows text) buffer) ≡ tokenise text buffer
-    fine is = sym (so ∙ rw is)
+    fine fit = sym (so ∙ rw fit)
 
 -- ---- what fits keeps to the limits
 module _ (text : List ℕ) (room : ℕ) (is : fits text room ≡ true) where

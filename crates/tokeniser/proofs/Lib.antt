@@ -1,8 +1,6 @@
 -- The proofs of the tokeniser.
 mod Bytes
-mod Names
-mod Entries
-mod ByNumber
+mod Spellings
 mod Stops
 mod Fronts
 mod High

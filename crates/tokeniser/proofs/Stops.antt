@@ -1,48 +1,57 @@
 -- Names, step by step: a name in braces, and a command by where its name ends. Assumes nothing.
-use Prim.Native.Nat.{ℕ, ◌+◌, ◌-◌, ◌≤◌, ◌<◌}
-use mathlib.Core.Path.{◌≡◌, refl, sym, ap, subst, ◌∙◌}
-use mathlib.Core.Bool.{Bool, true, false, and-false, ◌&&◌, cond}
+use Prim.Native.Nat.{ℕ, zero, suc, ◌+◌, ◌-◌, ◌≤◌, ◌<◌}
+use mathlib.Core.Path.{◌≡◌, refl, ap, ◌∙◌}
+use mathlib.Core.Bool.{true, false, and-false, ◌&&◌, cond}
 use mathlib.Core.List.{List, [], ◌∷◌}
 use native.Mathlib.Omega.{arith}
 use lib.Dec.{ltb}
 use lib.ListN.{length, take, drop, length-drop}
 use lib.Seq.{drop-drop}
-use borrow.Author.Tests.{le-ltb}
 use Rattle.rules.specs.Commands.{name_size, is_name, in_braces, kind_of, takes_name}
 use Rattle.rules.specs.Patterns.{run, in_front}
 use Rattle.rules.specs.Tokeniser.{Lexeme, plain, environment, command}
-use Rattle.tokeniser.specs.Lexemes.{Stands}
-use Rattle.tokeniser.specs.declared.lexeme.Lexeme as given
+use Rattle.std.specs.Prelude.{Some, None}
+use Rattle.rules.proofs.Characters.{either}
+use Rattle.tokeniser.specs.Answers.{named_in}
 use Rattle.rules.proofs.LexemeSizes.{name-fits, braces_fit}
 
--- ---- a name in braces
+-- ---- a name in braces: what stands behind the opening brace, and behind the name
 module _ (text : List ℕ) (from : ℕ) where
-  -- what stands behind the opening brace
   behind : drop 1 (drop from text) ≡ drop (from + 1) text
   behind = drop-drop 1 from text
 
-  pub no_brace : in_front (0x7B ∷ []) (drop from text) ≡ false → 0 ≡ in_braces (drop from text)
+  pub no_brace : in_front (0x7B ∷ []) (drop from text) ≡ false → named_in (in_braces (drop from text)) ≡ None
   unfolding in_braces
   no_brace other = rw other
 
-  -- the name ends at a place
-  module _ (end : ℕ) (is : end ≡ from + 1 + run is_name (drop (from + 1) text)) (opened : in_front (0x7B ∷ []) (drop from text) ≡ true) where
-    size : run is_name (drop 1 (drop from text)) ≡ end - (from + 1)
-    size = ap (run is_name) behind ∙ omega (arith, is)
-
-    closer : drop (1 + run is_name (drop 1 (drop from text))) (drop from text) ≡ drop end text
-    closer =
+  module _ (end : ℕ) (is : end ≡ from + 1 + run is_name (drop (from + 1) text)) where
+    braces-at : in_braces (drop from text)
+        ≡ cond (in_front (0x7B ∷ []) (drop from text) && in_front (0x7D ∷ []) (drop end text)) (end - (from + 1)) 0
+    unfolding in_braces
+    braces-at =
         let name = run is_name (drop 1 (drop from text)) in
+        let size : name ≡ end - (from + 1) = ap (run is_name) behind ∙ omega (arith, is) in
         let ends : from + (1 + name) ≡ end = omega (arith, is, size) in
-        drop-drop (1 + name) from text ∙ ap (λ (n : ℕ). drop n text) ends
+        let closer : drop (1 + name) (drop from text) ≡ drop end text = drop-drop (1 + name) from text ∙ ap (λ (n : ℕ). drop n text) ends in
+        rw (closer, size)
 
-    pub named : in_front (0x7D ∷ []) (drop end text) ≡ true → end - (from + 1) ≡ in_braces (drop from text)
-    unfolding in_braces
-    named closed = sym (rw (opened, closer, closed) size)
+    pub named : in_front (0x7B ∷ []) (drop from text) ≡ true → in_front (0x7D ∷ []) (drop end text) ≡ true → from + 1 < end
+        → named_in (in_braces (drop from text)) ≡ Some (end - (from + 1))
+    named opened closed some =
+        let size : end - (from + 1) ≡ suc (end - (from + 2)) = omega arith in
+        ap named_in braces-at ∙ rw (opened, closed, size)
 
-    pub unclosed : in_front (0x7D ∷ []) (drop end text) ≡ false → 0 ≡ in_braces (drop from text)
-    unfolding in_braces
-    unclosed other = rw (opened, closer, other)
+    pub unclosed : in_front (0x7D ∷ []) (drop end text) ≡ false → named_in (in_braces (drop from text)) ≡ None
+    unclosed other = ap named_in braces-at ∙ rw (other, and-false (in_front (0x7B ∷ []) (drop from text)))
+
+    pub empty : end ≤ from + 1 → named_in (in_braces (drop from text)) ≡ None
+    empty none =
+        let size : end - (from + 1) ≡ zero = omega arith in
+        ap named_in braces-at
+        ∙ either (in_front (0x7B ∷ []) (drop from text) && in_front (0x7D ∷ []) (drop end text)) (λ t. rw (t, size)) (λ f. rw f)
+
+-- what proves the goals of `in_braces`
+pub ruleset braces = (no_brace, named, unclosed, empty)
 
 -- the name and both braces lie in the text
 pub braces_inside : (text : List ℕ) (end : ℕ) → 0 < in_braces (drop end text) → in_braces (drop end text) + end + 2 ≤ length text
@@ -80,21 +89,6 @@ module _ (text : List ℕ) (at end : ℕ) (here : at < length text) (is : end �
   -- the first part shows where this is used: at a kind that the code asks for
   pub command_at : (kind_here ≡ kind_here) × (command (drop at text) ≡ whole (end - at) (drop end text))
   command_at = (refl, command-is)
-
-  -- the code's kind is the rule's
-  module _ (kind : ℕ) (k-is : kind ≡ kind_here) where
-    -- the code's plain token is the command
-    abbrev pub Found : given.Lexeme → Type 0
-    Found r = Stands at (plain kind (end - at)) r → Stands at (command (drop at text)) r
-
-    nameless : {r : given.Lexeme} → (takes_name kind && ltb 0 (in_braces (drop end text))) ≡ false → Found r
-    nameless {r} none = subst (λ l. Stands at l r) (sym (command-is ∙ rw (← k-is, none)))
-
-    pub takes_none : {r : given.Lexeme} {takes : Bool} → takes ≡ takes_name kind → takes ≡ false → Found r
-    takes_none is none = nameless (rw (sym is ∙ none))
-
-    pub has_none : {r : given.Lexeme} (name : ℕ) → name ≡ in_braces (drop end text) → name ≤ 0 → Found r
-    has_none name n-is none = nameless (rw (← n-is, le-ltb 0 name none) (and-false (takes_name kind)))
 
 -- what proves the goals of `command` that have no answer of their own
 pub ruleset commands = (braces_inside, command_at)

@@ -1,14 +1,13 @@
 -- What the code's answers stand for.
-use Rattle.std.specs.Prelude.{ℕ, cond, List, ltb, length}
-use Rattle.std.proofs.Math.Option.{Option, none, some}
+use Rattle.std.specs.Prelude.{ℕ, zero, suc, Option, Some, None, Result, Ok, Err}
 use Rattle.rules.specs.Tokeniser as rules
-use Rattle.tokeniser.specs.declared.rows.Tokenised.{Tokenised}
-use Rattle.tokeniser.specs.declared.rows.Tokenised.TheVariants.{Written, Refused}
+use Rattle.syntax.specs.declared.refusal.Refused.{Refused}
 
--- a place in the text; behind it there is none
-abbrev pub place_in : List ℕ → ℕ → Option ℕ
-place_in text place = cond (ltb place (length text)) (some place) none
+-- how long a name is, of which the rules say 0 where there is none
+abbrev pub named_in : ℕ → Option ℕ
+named_in zero = None
+named_in (suc more) = Some (suc more)
 
-abbrev pub tokenised_of : Tokenised → rules.Tokenised
-tokenised_of (Written tokens) = rules.written tokens
-tokenised_of (Refused number place) = rules.refused_at number place
+abbrev pub tokenised_of : Result ℕ Refused → rules.Tokenised
+tokenised_of (Ok tokens) = rules.written tokens
+tokenised_of (Err refused) = rules.refused_at refused.number refused.place

@@ -1,5 +1,5 @@
 -- The code's classes of bytes and what they stand for; and what is known of a text that is read.
-use Rattle.std.specs.Prelude.{ℕ, suc, ◌+◌, ◌-◌, ◌/◌, ◌%◌, ◌^◌, ◌<◌, ◌≡◌, Bool, false, cond, List, [], ◌∷◌, eqb, leb, ltb, length, get_or, drop}
+use Rattle.std.specs.Prelude.{ℕ, ◌-◌, ◌/◌, ◌%◌, ◌^◌, ◌<◌, ◌≡◌, Bool, false, cond, List, eqb, ltb, length, get_or}
 use Rattle.rules.specs.Commands.{is_letter, is_name}
 use Rattle.rules.specs.Patterns.{is_break, is_blank, is_no_break, is_word}
 use Rattle.rules.specs.Patterns as rules
@@ -26,15 +26,6 @@ pub record Tells (of : rules.Class) (bits : Bits) : Type 0 where
 -- "a byte over 127": there is none
 pub record Ascii (text : List ℕ) : Type 0 where
   pub byte : (at : ℕ) → at < length text → get_or text at 0 < 128
-
--- how many bytes are over 127
-unfoldable pub high_in : List ℕ → ℕ
-high_in [] = 0
-high_in (byte ∷ more) = cond (leb byte 127) (high_in more) (suc (high_in more))
-
--- where the bytes of a class end that begin at a place, whatever class the digits tell of
-pub record RunEnds (text : List ℕ) (from : ℕ) (bits : Bits) (end : ℕ) : Type 0 where
-  pub is : (of : rules.Class) → Tells of bits → end ≡ from + rules.run of (drop from text)
 
 -- a byte that begins no run of Word bytes, blanks or breaks
 pub record Mark (byte : ℕ) : Type 0 where

@@ -1,6 +1,7 @@
 // Classes of bytes, and how far bytes of one go.
-ghost use Rattle.std.specs.Prelude.{◌≡◌, ◌≤◌, ◌<◌, length};
-ghost use Rattle.tokeniser.specs.Bytes.{class_of, digit, Tells, Ascii, RunEnds};
+ghost use Rattle.std.specs.Prelude.{◌≡◌, ◌+◌, ◌≤◌, ◌<◌, length, drop};
+ghost use Rattle.rules.specs.Patterns.{run};
+ghost use Rattle.tokeniser.specs.Bytes.{class_of, Tells, Ascii};
 
 // The classes of token.rs's patterns, letters, and what an environment's name is made of.
 #[derive(Clone, Copy)]
@@ -15,13 +16,13 @@ pub enum Class {
 
 // A digit for each byte under 128, 1 where the byte is of the class: the last digit of `low` is that of byte 0, the last of `high` that of byte 64.
 #[derive(Clone, Copy)]
-pub struct Bits {
-    pub low: u64,
-    pub high: u64,
+struct Bits {
+    low: u64,
+    high: u64,
 }
 
 impl Class {
-    pub fn bits(self) -> Bits
+    fn bits(self) -> Bits
         ensures { Tells (class_of self) result }
     {
         match self {
@@ -51,32 +52,28 @@ impl Class {
             },
         }
     }
-}
 
-// The digit of a byte.
-pub fn has(bits: Bits, byte: u8) -> bool
-    requires { byte < 128 }
-    ensures { result ≡ digit bits byte }
-{
-    let place = byte % 64;
-    if byte < 64 {
-        return (bits.low >> place) % 2 == 1;
+    // Whether a byte is of the class.
+    pub fn has(self, byte: u8) -> bool
+        requires { byte < 128 }
+        ensures { result ≡ class_of self byte }
+    {
+        let bits = self.bits();
+        let digits = if byte < 64 { bits.low } else { bits.high };
+        (digits >> (byte % 64)) % 2 == 1
     }
-    (bits.high >> place) % 2 == 1
 }
 
 // Where the bytes of a class end that begin at a place.
-pub fn run_end(text: &[u8], from: usize, bits: Bits) -> usize
+#[tactic(auto, using(crate::proofs::Bytes::runs))]
+pub fn run_end(text: &[u8], from: usize, class: Class) -> usize
     requires { (from ≤ length text.now) × Ascii text.now }
-    ensures { RunEnds text.now from bits result }
+    ensures { result ≡ from + run (class_of class) (drop from text.now) }
 {
-    let mut at = from;
-    while at < text.len() {
-        if has(bits, text[at]) {
-            at += 1;
-        } else {
+    for at in from..text.len() {
+        if !class.has(text[at]) {
             return at;
         }
     }
-    at
+    text.len()
 }

@@ -1,12 +1,12 @@
 // The token at a place: the longest match of token.rs's patterns, and of a command its name.
-ghost use Rattle.std.specs.Prelude.{◌≡◌, ◌-◌, ◌≤◌, ◌<◌, length, get_or, drop};
+ghost use Rattle.std.specs.Prelude.{◌≡◌, ◌-◌, ◌≤◌, ◌<◌, if◌then◌else◌, length, get_or, drop};
 ghost use Rattle.rules.specs.Commands.{takes_name, with_name};
 ghost use Rattle.rules.specs.Tokeniser.{plain, command, lexeme};
 ghost use Rattle.rules.proofs.Lexemes.{kind_alone};
 ghost use Rattle.tokeniser.specs.Bytes.{Ascii, Mark};
 ghost use Rattle.tokeniser.specs.Lexemes.{Stands};
 
-use crate::class::{Class, has, run_end};
+use crate::class::{Class, run_end};
 use crate::command::kind_of;
 use crate::name::{in_braces, name_end, stands};
 use syntax::Token;
@@ -33,21 +33,15 @@ fn plain(kind: u32, at: usize, end: usize) -> Lexeme
     }
 }
 
-// Whether it is \begin or \end.
-fn takes_name(kind: u32) -> bool
-    ensures { result ≡ takes_name kind }
+// The kind of \begin or \end with its name, if it is one of them.
+fn with_name(kind: u32) -> Option<u32>
+    ensures { result ≡ if takes_name kind then Some (with_name kind) else None }
 {
-    kind == Token::ERROR_BEGIN_ENVIRONMENT || kind == Token::ERROR_END_ENVIRONMENT
-}
-
-// The kind of \begin or \end with its name.
-fn with_name(kind: u32) -> u32
-    ensures { result ≡ with_name kind }
-{
-    if kind == Token::ERROR_BEGIN_ENVIRONMENT {
-        return Token::BEGIN_ENVIRONMENT;
+    match kind {
+        Token::ERROR_BEGIN_ENVIRONMENT => Some(Token::BEGIN_ENVIRONMENT),
+        Token::ERROR_END_ENVIRONMENT => Some(Token::END_ENVIRONMENT),
+        _ => None,
     }
-    Token::END_ENVIRONMENT
 }
 
 // A backslash and its name; \begin and \end take a name in braces with them.
@@ -59,18 +53,16 @@ fn command(text: &[u8], at: usize) -> Lexeme
     let from = at + 1;
     let end = name_end(text, from);
     let kind = kind_of(&text[from..end]);
-    if takes_name(kind) {
-        let name = in_braces(text, end);
-        if 0 < name {
-            let start = end + 1;
-            return Lexeme {
-                kind: with_name(kind),
-                start,
-                length: name,
-                end: start + name + 1,
-            };
-        }
-        return plain(kind, at, end);
+    if let Some(environment) = with_name(kind)
+        && let Some(length) = in_braces(text, end)
+    {
+        let start = end + 1;
+        return Lexeme {
+            kind: environment,
+            start,
+            length,
+            end: start + length + 1,
+        };
     }
     plain(kind, at, end)
 }
@@ -116,11 +108,7 @@ fn mark(text: &[u8], at: usize) -> Lexeme
             }
             command(text, at)
         }
-        b'%' => plain(
-            Token::LINE_COMMENT,
-            at,
-            run_end(text, next, Class::NoBreak.bits()),
-        ),
+        b'%' => plain(Token::LINE_COMMENT, at, run_end(text, next, Class::NoBreak)),
         b'$' => {
             if stands(text, next, b'$') {
                 return plain(Token::DOLLAR, at, next + 1);
@@ -138,17 +126,14 @@ pub fn lexeme_at(text: &[u8], at: usize) -> Lexeme
 {
     let byte = text[at];
     let next = at + 1;
-    let word = Class::Word.bits();
-    if has(word, byte) {
-        return plain(Token::WORD, at, run_end(text, next, word));
+    if Class::Word.has(byte) {
+        return plain(Token::WORD, at, run_end(text, next, Class::Word));
     }
-    let blank = Class::Blank.bits();
-    if has(blank, byte) {
-        return plain(Token::WHITESPACE, at, run_end(text, next, blank));
+    if Class::Blank.has(byte) {
+        return plain(Token::WHITESPACE, at, run_end(text, next, Class::Blank));
     }
-    let breaks = Class::Break.bits();
-    if has(breaks, byte) {
-        return plain(Token::LINE_BREAK, at, run_end(text, next, breaks));
+    if Class::Break.has(byte) {
+        return plain(Token::LINE_BREAK, at, run_end(text, next, Class::Break));
     }
     mark(text, at)
 }

@@ -7,4 +7,4 @@ mod lexeme;
 mod name;
 mod rows;
 
-pub use rows::{Tokenised, tokenise};
+pub use rows::tokenise;

@@ -1,6 +1,6 @@
--- A leaf's range lies in the text, and the part that is cut out there is its text, in its place.
-use Rattle.std.proofs.Common.{◌≡◌, ℕ, ◌+◌, ◌-◌, ◌≤◌, List, length, ap, arith}
-use Rattle.rules.specs.Questions.{Range, leaf_range, leaf_text}
+-- A leaf's range lies in the text.
+use Rattle.std.proofs.Common.{◌≡◌, ℕ, ◌+◌, ◌≤◌, List, length, ap, arith, rules}
+use Rattle.rules.specs.Questions.{Range, leaf_range}
 use Rattle.rules.proofs.Questions.{range_inside}
 use Rattle.questions.specs.Stands.{range_of}
 use Rattle.questions.specs.declared.leaf.LeafRange.{LeafRange}
@@ -13,12 +13,4 @@ pub overflow_add-to : goal.overflow_add-to
 overflow_add-to c = let fits = inside _ _ _ c.leaf_range-range.ensures in omega arith
 
 pub slice_bounds-result-end : goal.slice_bounds-result-end
-slice_bounds-result-end c = search inside
-
-pub returns : goal.returns
-unfolding leaf_text
-returns c =
-    let range = c.leaf_range-range.result in
-    let is = c.leaf_range-range.ensures in
-    let whole : range.start + range.size - range.start ≡ range.size = omega arith in
-    record { is = rw (whole, ← is); place = rw (← is) }
+slice_bounds-result-end c = let fits = inside _ _ _ c.leaf_range-range.ensures in search rules

@@ -1,13 +1,7 @@
 -- From `at` on the first token is the one from the start on.
-use Rattle.std.proofs.Common.{◌≡◌, ◌-◌, ◌≤◌}
+use Rattle.std.proofs.Common.{◌≡◌, ◌-◌}
 use Rattle.rules.specs.Questions.{first_from}
 use Rattle.questions.proofs.tokens.first_from.Given as goal
 
 abbrev pub invariant-loop-at : goal.invariant-loop-at
-invariant-loop-at l = record {
-  inside : l.at ≤ l.to;
-  so_far : first_from l.tree (l.to - l.from) l.from ≡ first_from l.tree (l.to - l.at) l.at;
-}
-
-abbrev pub decreases-loop-at : goal.decreases-loop-at
-decreases-loop-at l = l.to - l.at
+invariant-loop-at l = first_from l.tree (l.to - l.from) l.from ≡ first_from l.tree (l.to - l.at) l.at

@@ -12,7 +12,7 @@ pub returns-else-stands : goal.returns-else-stands
 returns-else-stands c = backslash _ _ c.requires.0 c.in-92.is (sym c.stands.ensures ∙ c.if-stands.false) c.command.ensures
 
 pub returns-in-37 : goal.returns-in-37
-returns-in-37 c = comment _ _ c.requires.0 _ c.in-37.is (c.run_end.ensures.is _ c.bits.ensures) c.plain-in-37.ensures
+returns-in-37 c = comment _ _ c.requires.0 _ c.in-37.is c.run_end.ensures c.plain-in-37.ensures
 
 pub returns-then-stands-2 : goal.returns-then-stands-2
 returns-then-stands-2 c =

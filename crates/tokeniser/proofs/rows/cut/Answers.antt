@@ -1,19 +1,19 @@
--- Each token is counted, and its row is written unless the tokens are only counted; the token there tells how far the place moves.
+-- Each token is counted, and its row is written if there is room; the token there tells how far the place moves.
 use Rattle.std.proofs.Common.{arith}
 use Rattle.rules.proofs.TokensOf.{size_at}
-use Rattle.tokeniser.proofs.Cutting.{none_yet, room, goes_on, all_counted, at-the_end}
+use Rattle.tokeniser.proofs.Cutting.{none_yet, goes_on, all_counted, at-the_end}
 use Rattle.tokeniser.proofs.rows.cut.Goals as goal
 
 pub loop-at-init : goal.loop-at-init
-loop-at-init c = none_yet _ _ _
+loop-at-init c = none_yet _ _
 
 pub put-requires : goal.put-requires
 put-requires c =
     let text = c.args.text.now in
-    let here = c.loop-at-test.true in
+    let counted = c.loop-at.invariant.counted in
     let stands = c.lexeme_at-token.ensures in
-    let fine = size_at text c.loop-at.at here in (
-      λ is. room text c.loop-at.invariant here (c.requires.2 is),
+    let fine = size_at text c.loop-at.at c.loop-at-test.true in (
+      omega (arith, counted.few, counted.inside),
       omega (arith, stands.start, fine.fits, fine.within),
       omega (arith, stands.long, fine.fits, fine.within),
     )
@@ -25,11 +25,11 @@ loop-at-smaller c =
 
 pub loop-at-preserved : goal.loop-at-preserved
 loop-at-preserved c =
-    goes_on c.args.text.now c.loop-at.invariant _ c.loop-at-test.true c.lexeme_at-token.ensures c.requires.2 c.put.ensures c.put.auto.rows
+    goes_on c.args.text.now c.loop-at.invariant _ c.loop-at-test.true c.lexeme_at-token.ensures c.put.ensures c.put.auto.rows
 
 pub returns : goal.returns
 returns c =
     let text = c.args.text.now in
     let so_far = c.loop-at.invariant in
     let past = c.loop-at-test.false in
-    (all_counted text so_far.counted past, at-the_end text so_far past c.requires.2)
+    (all_counted text so_far.counted past, at-the_end text so_far past)
