@@ -3,7 +3,7 @@
 use mathlib.Core.Path.{◌≡◌, refl, sym, ap, ◌∙◌}
 use mathlib.Core.Bool.{Bool, true, false}
 use mathlib.Core.List.{List}
-use mathlib.Core.Option.{Option, none, some}
+use Rattle.std.specs.Prelude.{Option, None as none, Some as some, Result, Ok, Err}
 use Prim.Native.Nat.{ℕ, ◌<◌}
 use native.Mathlib.Omega.{arith}
 use borrow.Author.Tests.{leb-false}
@@ -16,10 +16,8 @@ use Rattle.rules.proofs.Characters.{either}
 use Rattle.syntax.proofs.Only.{Only, equal}
 use Rattle.listings.specs.Contract.{Lists}
 use Rattle.sheets.specs.Contract.{numbers_of}
-use Rattle.listings.specs.declared.listing.Listed.{Listed}
-use Rattle.listings.specs.declared.listing.Listed.TheVariants.{Bytes, NoRoom}
-use Rattle.ffi.specs.Exported.{HandsOut, answer_from, ran_from, Hands, listed_from, not_read}
-use Rattle.ffi.specs.declared.sheet.Counts.{Counts}
+use Rattle.listings.specs.declared.listing.NoRoom.{NoRoom}
+use Rattle.ffi.specs.Exported.{HandsOut, answer_from, ran_from, Counts, Hands, listed_from, not_read}
 use Rattle.ffi.proofs.cartglaze_is_display.Reads as is-display
 use Rattle.ffi.proofs.cartglaze_is_inline.Reads as is-inline
 use Rattle.ffi.proofs.cartglaze_is_leaf.Reads as is_leaf
@@ -91,9 +89,9 @@ refused-tells (some t) {numbers} k =
     absurd (omega arith))
 
 -- ---- a listing
-abbrev listed : Listed → Bool × ℕ
-listed (Bytes n) = (true, n)
-listed (NoRoom n) = (false, n)
+abbrev listed : Result ℕ NoRoom → Bool × ℕ
+listed (Ok n) = (true, n)
+listed (Err short) = (false, short.needed)
 
 listed_of : (r : Bool) (n : ℕ) → listed (listed_from r n) ≡ (r, n)
 listed_of true n = refl

@@ -1,15 +1,13 @@
 -- What goes over C in numbers: what a text comes to, the run's answer, what a sheet comes to, and what a listing comes to.
-use Rattle.std.specs.Prelude.{ℕ, ◌-◌, ◌^◌, min, Bool, true, false, List, ◌≡◌, length}
-use Rattle.std.proofs.Math.Option.{Option}
+use Rattle.std.specs.Prelude.{ℕ, ◌-◌, ◌^◌, min, Bool, true, false, List, ◌≡◌, length, Result, Ok, Err, Option}
 use Rattle.rules.specs.Checks.{Tables}
 use Rattle.rules.specs.Run.{Answer, accepted, refused_at, Ran}
 use Rattle.rules.specs.Tokeniser as tokeniser
 use Rattle.sheets.specs.Contract.{answer_for, numbers_after}
-use Rattle.listings.specs.declared.listing.Listed.{Listed}
-use Rattle.listings.specs.declared.listing.Listed.TheVariants as listed
-use Rattle.sheets.specs.declared.sheet.Sheet.{Sheet}
-use Rattle.sheets.specs.declared.sheet.Sheet.TheVariants as sheet
-use Rattle.ffi.specs.declared.sheet.Counts.{Counts}
+use Rattle.listings.specs.declared.listing.NoRoom.{NoRoom}
+use Rattle.sheets.specs.declared.sections.Sections.{Sections}
+use Rattle.sheets.specs.declared.sheet.Unread.{Unread}
+use Rattle.sheets.specs.declared.sheet.Unread.TheVariants as unread
 
 -- ---- a text
 
@@ -40,6 +38,15 @@ ran_from is first second tree dropped = record { answer = answer_from is first s
 
 -- ---- a sheet
 
+-- whether it is read, and how much each section has; else all of these are 0. `needed` is 0 too unless the numbers have no room
+pub record Counts : Type 0 where
+  pub read : Bool
+  pub text : ℕ
+  pub tokens : ℕ
+  pub shapes : ℕ
+  pub states : ℕ
+  pub needed : ℕ
+
 -- what is handed out, in the order of the parameters
 abbrev pub handed : Bool → ℕ → ℕ → ℕ → ℕ → ℕ → Counts
 handed read text tokens shapes states needed =
@@ -50,10 +57,10 @@ abbrev pub not_read : ℕ → Counts
 not_read needed = handed false 0 0 0 0 needed
 
 -- a sheet without room has a number at least, so 0 tells refusal 9 (`refused-tells`)
-abbrev pub counts_of : Sheet → Counts
-counts_of (sheet.Read s) = handed true s.text s.tokens s.shapes s.states 0
-counts_of sheet.Refused = not_read 0
-counts_of (sheet.NoRoom numbers) = not_read numbers
+abbrev pub counts_of : Result Sections Unread → Counts
+counts_of (Ok s) = handed true s.text s.tokens s.shapes s.states 0
+counts_of (Err unread.Refused) = not_read 0
+counts_of (Err (unread.NoRoom numbers)) = not_read numbers
 
 -- the counts for a sheet of these tables, or of none, when these numbers are lent; and what the numbers are afterwards
 pub record Hands (tables : Option Tables) (numbers : List ℕ) (counts : Counts) (after : List ℕ) : Type 0 where
@@ -71,6 +78,6 @@ answer_in true rows dropped = accepted rows dropped
 answer_in false number place = refused_at (min number largest_number) place
 
 -- written with so many bytes, or not for want of room for so many
-abbrev pub listed_from : Bool → ℕ → Listed
-listed_from true count = listed.Bytes count
-listed_from false count = listed.NoRoom count
+abbrev pub listed_from : Bool → ℕ → Result ℕ NoRoom
+listed_from true count = Ok count
+listed_from false count = Err (record { needed = count })

@@ -2,18 +2,16 @@
 #![tactic(auto)]
 
 mod listing;
-mod number;
 mod sheet;
 mod tokens;
 
 ghost use Rattle.std.specs.Prelude.{◌≡◌};
 ghost use Rattle.rules.specs.Questions.{is_display, is_inline, is_valid, is_whole, is_leaf, leaf_range};
 ghost use Rattle.rules.specs.Run.{run as run_of};
-ghost use Rattle.parser.specs.Member.{tables};
+ghost use Rattle.syntax.specs.Tables.{tables};
 ghost use Rattle.ffi.specs.Exported.{ran_from};
 
-use crate::number::wide;
-use cartglaze::{Answer, is_display, is_inline, is_leaf, is_valid, is_whole, leaf_range, run};
+use cartglaze::{Tables, is_display, is_inline, is_leaf, is_valid, is_whole, leaf_range, run};
 pub use listing::cartglaze_list;
 pub use sheet::cartglaze_read;
 pub use tokens::cartglaze_tokenise;
@@ -34,16 +32,21 @@ pub extern "C" fn cartglaze_run(
         let ran = ran_from result first.new second.new tree.new dropped.new in
         run_of t tree.old dropped.old ≡ ran }
 {
-    let answer = run(text, tokens, shapes, states, tree, dropped);
-    match answer {
-        Answer::Accepted(rows, dropped_rows) => {
-            *first = rows;
-            *second = dropped_rows;
+    let tables = Tables {
+        text,
+        tokens,
+        shapes,
+        states,
+    };
+    match run(&tables, tree, dropped) {
+        Ok(counts) => {
+            *first = counts.rows;
+            *second = counts.dropped;
             true
         }
-        Answer::Refused(number, place) => {
-            *first = wide(number);
-            *second = place;
+        Err(refused) => {
+            *first = refused.number as usize;
+            *second = refused.place;
             false
         }
     }
@@ -94,8 +97,7 @@ pub extern "C" fn cartglaze_is_leaf(text: &[u8], tree: &[u32], row: usize) -> bo
 pub extern "C" fn cartglaze_leaf_start(text: &[u8], tree: &[u32], row: usize) -> usize
     ensures { result ≡ (leaf_range text.now tree.now row).start }
 {
-    let range = leaf_range(text, tree, row);
-    range.start
+    leaf_range(text, tree, row).start
 }
 
 // How many bytes it has.
@@ -103,6 +105,5 @@ pub extern "C" fn cartglaze_leaf_start(text: &[u8], tree: &[u32], row: usize) ->
 pub extern "C" fn cartglaze_leaf_length(text: &[u8], tree: &[u32], row: usize) -> usize
     ensures { result ≡ (leaf_range text.now tree.now row).size }
 {
-    let range = leaf_range(text, tree, row);
-    range.size
+    leaf_range(text, tree, row).size
 }

@@ -5,18 +5,12 @@ ghost use Rattle.listings.specs.Contract.{Lists};
 ghost use Rattle.listings.specs.Stands.{answer_of};
 ghost use Rattle.ffi.specs.Exported.{largest_number, answer_in, listed_from};
 
-use cartglaze::{Answer, Listed, list};
-
-const LARGEST: usize = 4_294_967_295;
+use cartglaze::{Answer, Counts, Refused, list};
 
 fn narrow(number: usize) -> u32
     ensures { result ≡ min number largest_number }
 {
-    if number < LARGEST {
-        number as u32
-    } else {
-        LARGEST as u32
-    }
+    u32::try_from(number).unwrap_or(u32::MAX)
 }
 
 // The answer. No run has a number of refusal that is larger than 32 bits; one that comes in counts for the largest.
@@ -24,9 +18,15 @@ fn answer_in(accepted: bool, first: usize, second: usize) -> Answer
     ensures { answer_of result ≡ answer_in accepted first second }
 {
     if accepted {
-        Answer::Accepted(first, second)
+        Ok(Counts {
+            rows: first,
+            dropped: second,
+        })
     } else {
-        Answer::Refused(narrow(first), second)
+        Err(Refused {
+            number: narrow(first),
+            place: second,
+        })
     }
 }
 
@@ -44,14 +44,13 @@ pub extern "C" fn cartglaze_list(
     ensures { let lines = listing (answer_in accepted first second) tree.now dropped.now in
         Lists lines out.old (listed_from result length.new) out.new }
 {
-    let listed = list(answer_in(accepted, first, second), tree, dropped, out);
-    match listed {
-        Listed::Bytes(count) => {
+    match list(answer_in(accepted, first, second), tree, dropped, out) {
+        Ok(count) => {
             *length = count;
             true
         }
-        Listed::NoRoom(count) => {
-            *length = count;
+        Err(no_room) => {
+            *length = no_room.needed;
             false
         }
     }

@@ -2,8 +2,7 @@
 ghost use Rattle.rules.specs.Tokeniser.{tokenise as tokeniseOf};
 ghost use Rattle.ffi.specs.Exported.{HandsOut};
 
-use crate::number::wide;
-use cartglaze::{Tokenised, tokenise};
+use cartglaze::tokenise;
 
 // Whether the text is taken. Taken: the count of its token rows, and 0; refused: the number and the place, and nothing is written.
 #[unsafe(no_mangle)]
@@ -16,16 +15,15 @@ pub extern "C" fn cartglaze_tokenise(
     ensures { let done = tokeniseOf text.now tokens.old in
         HandsOut done result first.new second.new tokens.new }
 {
-    let tokenised = tokenise(text, tokens);
-    match tokenised {
-        Tokenised::Written(rows) => {
+    match tokenise(text, tokens) {
+        Ok(rows) => {
             *first = rows;
             *second = 0;
             true
         }
-        Tokenised::Refused(number, place) => {
-            *first = wide(number);
-            *second = place;
+        Err(refused) => {
+            *first = refused.number as usize;
+            *second = refused.place;
             false
         }
     }

@@ -2,11 +2,12 @@
 use Prim.Native.Nat.{ℕ}
 use mathlib.Core.List.{List}
 use mathlib.Core.Path.{◌≡◌, sym, ◌∙◌}
+use Rattle.std.specs.Prelude.{Result}
 use Rattle.listings.specs.Contract.{Wrote, Lists}
-use Rattle.listings.specs.declared.listing.Listed.{Listed}
+use Rattle.listings.specs.declared.listing.NoRoom.{NoRoom}
 
 -- `list`
-pub only_list : {lines out v w : List ℕ} {r s : Listed} → Lists lines out r v → Lists lines out s w → (r ≡ s) × (v ≡ w)
+pub only_list : {lines out v w : List ℕ} {r s : Result ℕ NoRoom} → Lists lines out r v → Lists lines out s w → (r ≡ s) × (v ≡ w)
 only_list one other = (one.answer ∙ sym other.answer, one.written ∙ sym other.written)
 
 -- `put` and the functions below `list`: how many bytes there are then, and every byte of the lent ones

@@ -7,9 +7,9 @@ use native.Mathlib.Omega.{arith}
 use borrow.Author.Tests.{le-leb}
 use lib.ListN.{length}
 use lib.Seq.{sets, sets-eq}
+use Rattle.std.specs.Prelude.{Ok}
 use Rattle.rules.specs.Run.{over}
 use Rattle.listings.specs.Contract.{Wrote, Lists}
-use Rattle.listings.specs.declared.listing.Listed.TheVariants.{Bytes}
 use Rattle.listings.proofs.Writing.{sets_past}
 
 -- the bytes of a lent slice are fewer than 2^63
@@ -18,7 +18,7 @@ module _ {lines v : List ℕ} {needed : ℕ} (out : List ℕ) (counted : Wrote l
   back : v ++ out ≡ out
   back = rw (counted.is, sets_past lines [] 0 (omega arith))
 
-  pub all_written : {w : List ℕ} {r : ℕ} → needed ≤ length (v ++ out) → Wrote lines (v ++ out) 0 w r → Lists lines out (Bytes needed) w
+  pub all_written : {w : List ℕ} {r : ℕ} → needed ≤ length (v ++ out) → Wrote lines (v ++ out) 0 w r → Lists lines out (Ok needed) w
   all_written fits k =
       let room : needed ≤ length out = rw back at fits in
       let count : needed ≡ length lines = let n = counted.next in omega arith in

@@ -1,13 +1,12 @@
 -- What the contracts say of the lent bytes that lines are written into.
-use Rattle.std.specs.Prelude.{ℕ, ◌+◌, ◌-◌, ◌/◌, ◌^◌, min, true, false, cond, List, ◌++◌, ◌≡◌, leb, length}
+use Rattle.std.specs.Prelude.{ℕ, ◌+◌, ◌-◌, ◌/◌, ◌^◌, min, true, false, cond, List, ◌++◌, ◌≡◌, leb, length, Result, Ok, Err}
 use Rattle.std.proofs.lemmas.List.Edits.{sets}
 use Rattle.rules.specs.Limits
 use Rattle.rules.specs.Listing.{tree_lines, dropped_lines}
 use Rattle.rules.specs.Questions.{row_count}
 use Rattle.rules.specs.Run.{over}
 use Rattle.listings.specs.Stands.{Written, written_of}
-use Rattle.listings.specs.declared.listing.Listed.{Listed}
-use Rattle.listings.specs.declared.listing.Listed.TheVariants as listed
+use Rattle.listings.specs.declared.listing.NoRoom.{NoRoom}
 
 -- the largest count
 abbrev pub most : ℕ
@@ -24,8 +23,8 @@ row_lines tree rows dropped count =
     tree_lines tree (min rows (row_count tree)) 0 0 ++ dropped_lines dropped (min count (length dropped / Limits.dropped_width)) 0
 
 -- the answer for a listing when so many bytes are lent, what it says, and what the bytes are afterwards
-abbrev pub listed_in : List ℕ → ℕ → Listed
-listed_in lines room = cond (leb (length lines) room) (listed.Bytes (length lines)) (listed.NoRoom (min (length lines) most))
+abbrev pub listed_in : List ℕ → ℕ → Result ℕ NoRoom
+listed_in lines room = cond (leb (length lines) room) (Ok (length lines)) (Err (record { needed = min (length lines) most }))
 
 abbrev pub written_in : List ℕ → ℕ → Written
 written_in lines room =
@@ -36,7 +35,7 @@ written_in lines room =
 abbrev pub bytes_after : List ℕ → List ℕ → List ℕ
 bytes_after lines bytes = cond (leb (length lines) (length bytes)) (over lines bytes) bytes
 
-pub record Lists (lines : List ℕ) (bytes : List ℕ) (r : Listed) (after : List ℕ) : Type 0 where
+pub record Lists (lines : List ℕ) (bytes : List ℕ) (r : Result ℕ NoRoom) (after : List ℕ) : Type 0 where
   pub answer : r ≡ listed_in lines (length bytes)
   pub says : written_of r ≡ written_in lines (length bytes)
   pub written : after ≡ bytes_after lines bytes

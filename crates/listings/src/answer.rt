@@ -1,8 +1,13 @@
 // The answer of a run.
 
-// Accepted with the counts of tree rows and of dropped rows, or refused with a number and a place.
-#[derive(Clone, Copy)]
-pub enum Answer {
-    Accepted(usize, usize),
-    Refused(u32, usize),
+use syntax::Refused;
+
+// How many tree rows and dropped rows an accepted run wrote.
+#[derive(Clone, Copy, PartialEq, Eq)]
+pub struct Counts {
+    pub rows: usize,
+    pub dropped: usize,
 }
+
+// Accepted with its counts, or refused with a number and a place.
+pub type Answer = Result<Counts, Refused>;

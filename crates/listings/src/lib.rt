@@ -7,6 +7,6 @@ mod lines;
 mod listing;
 mod write;
 
-pub use answer::Answer;
-pub use listing::{Listed, list};
+pub use answer::{Answer, Counts};
+pub use listing::{NoRoom, list};
 pub use write::put;

@@ -1,8 +1,8 @@
 // The lines of a listing, each written behind what stands there.
-ghost use Rattle.std.specs.Prelude.{◌≡◌, [], ◌∷◌, ◌++◌, ◌<◌, ◌≤◌, ◌/◌, ◌^◌, length};
+ghost use Rattle.std.specs.Prelude.{◌≡◌, [], ◌∷◌, ◌++◌, ◌/◌, min, length};
 ghost use Rattle.rules.specs.Limits.{dropped_width};
 ghost use Rattle.rules.specs.Listing.{line, decimal, line_break, numbered, tree_line, tree_lines, dropped_line, dropped_lines};
-ghost use Rattle.rules.specs.Questions.{open_after, row_count};
+ghost use Rattle.rules.specs.Questions.{row_count};
 ghost use Rattle.listings.specs.Contract.{Wrote};
 
 use crate::write::{field, fields, number, put, word};
@@ -35,16 +35,8 @@ fn rest_of_line(out: &mut [u8], at: usize, numbers: &[u32]) -> usize
     put(out, next, LINE_BREAK)
 }
 
-// The line of a start: its depth, and the two numbers of its row that say something.
-fn start_line(out: &mut [u8], at: usize, depth: usize, kind: u32, token: u32) -> usize
-    ensures { Wrote (line (decimal depth) (kind ∷ token ∷ [])) out.old at out.new result }
-{
-    let next = number(out, at, depth);
-    two_numbers(out, next, kind as usize, token as usize)
-}
-
-// The line of a leaf: its depth, and the numbers of its row.
-fn leaf_line(out: &mut [u8], at: usize, depth: usize, numbers: &[u32]) -> usize
+// A line of a depth, and the numbers of a row that say something.
+fn depth_line(out: &mut [u8], at: usize, depth: usize, numbers: &[u32]) -> usize
     ensures { Wrote (line (decimal depth) numbers.now) out.old at out.new result }
 {
     let next = number(out, at, depth);
@@ -52,74 +44,58 @@ fn leaf_line(out: &mut [u8], at: usize, depth: usize, numbers: &[u32]) -> usize
 }
 
 // The line of a row: of a start its depth, kind and token, of a leaf also start and length before the token, of any other row none.
-fn tree_line(out: &mut [u8], at: usize, tree: &[u32], row: usize, depth: usize) -> usize
-    requires { row < row_count tree.now }
-    ensures { Wrote (tree_line tree.now row depth) out.old at out.new result }
+#[tactic(auto, unfolding(rules::specs::Listing::tree_line))]
+fn tree_line(out: &mut [u8], at: usize, row: &[u32; Limits::TREE_WIDTH], depth: usize) -> usize
+    ensures { Wrote (tree_line row.now 0 depth) out.old at out.new result }
 {
-    let from = row * Limits::TREE_WIDTH;
-    let kind = from + 1;
-    let token = from + 4;
-    let to = from + Limits::TREE_WIDTH;
-    let tag = tree[from];
-    if tag == Tag::START {
-        return start_line(out, at, depth, tree[kind], tree[token]);
+    let [tag, kind, _, _, token] = *row;
+    if tag == Tag::Start.number() {
+        return depth_line(out, at, depth, &[kind, token]);
     }
-    if tag == Tag::LEAF {
-        return leaf_line(out, at, depth, &tree[kind..to]);
+    if tag == Tag::Leaf.number() {
+        return depth_line(out, at, depth, &row[1..]);
     }
     at
 }
 
-// How many nodes are open once a row of this tag is passed: a finish where none is open leaves none.
-fn depth_after(tag: u32, depth: usize) -> usize
-    requires { depth < 2 ^ 63 }
-    ensures { result ≡ open_after tag depth }
+// The lines of the first rows, of as many as there are.
+pub fn tree_lines(out: &mut [u8], at: usize, tree: &[u32], count: usize) -> usize
+    ensures { Wrote (tree_lines tree.now (min count (row_count tree.now)) 0 0) out.old at out.new result }
 {
-    if tag == Tag::START {
-        return depth + 1;
-    }
-    if tag == Tag::FINISH {
-        if depth == 0 {
-            return 0;
-        }
-        return depth - 1;
-    }
-    depth
-}
-
-// The lines of the first rows.
-pub fn tree_lines(out: &mut [u8], at: usize, tree: &[u32], rows: usize) -> usize
-    requires { rows ≤ row_count tree.now }
-    ensures { Wrote (tree_lines tree.now rows 0 0) out.old at out.new result }
-{
+    let (rows, _) = tree.as_chunks::<{ Limits::TREE_WIDTH }>();
     let mut next = at;
-    let mut depth: usize = 0;
-    for row in 0..rows {
-        next = tree_line(out, next, tree, row, depth);
-        depth = depth_after(tree[row * Limits::TREE_WIDTH], depth);
+    let mut depth = 0;
+    for row in &rows[..count.min(rows.len())] {
+        next = tree_line(out, next, row, depth);
+        depth = Tag::open_after(row[0], depth);
     }
     next
 }
 
-// The line of a dropped row.
-fn dropped_line(out: &mut [u8], at: usize, dropped: &[u32], row: usize) -> usize
-    requires { row < length dropped.now / dropped_width }
-    ensures { Wrote (dropped_line dropped.now row) out.old at out.new result }
+// A line of a word and numbers that stand side by side.
+fn word_line(out: &mut [u8], at: usize, first: &[u8], numbers: &[u32]) -> usize
+    ensures { Wrote (line first.now numbers.now) out.old at out.new result }
 {
-    let from = row * Limits::DROPPED_WIDTH;
-    let to = from + Limits::DROPPED_WIDTH;
-    let next = put(out, at, b'd');
-    rest_of_line(out, next, &dropped[from..to])
+    let next = word(out, at, first);
+    rest_of_line(out, next, numbers)
 }
 
-// The lines of the first dropped rows.
-pub fn dropped_lines(out: &mut [u8], at: usize, dropped: &[u32], rows: usize) -> usize
-    requires { rows ≤ length dropped.now / dropped_width }
-    ensures { Wrote (dropped_lines dropped.now rows 0) out.old at out.new result }
+// The line of a dropped row.
+#[tactic(auto, unfolding(rules::specs::Listing::dropped_line))]
+fn dropped_line(out: &mut [u8], at: usize, row: &[u32; Limits::DROPPED_WIDTH]) -> usize
+    ensures { Wrote (dropped_line row.now 0) out.old at out.new result }
 {
+    word_line(out, at, b"d", row)
+}
+
+// The lines of the first dropped rows, of as many as there are.
+pub fn dropped_lines(out: &mut [u8], at: usize, dropped: &[u32], count: usize) -> usize
+    ensures { Wrote (dropped_lines dropped.now (min count (length dropped.now / dropped_width)) 0) out.old at out.new result }
+{
+    let (rows, _) = dropped.as_chunks::<{ Limits::DROPPED_WIDTH }>();
     let mut next = at;
-    for row in 0..rows {
-        next = dropped_line(out, next, dropped, row);
+    for row in &rows[..count.min(rows.len())] {
+        next = dropped_line(out, next, row);
     }
     next
 }

@@ -1,10 +1,9 @@
 // Bytes into a lent buffer, one behind the other. Each function is handed how many there are and answers how many there are then. Past the buffer's
 // end they are counted and not written; the count stays at the largest number once it is there.
+// Buffer and count are two parameters, since a struct of both is no plainer: each contract would also say that it still lends the same buffer.
 ghost use Rattle.rules.specs.Listing.{decimal, numbered, blank};
 ghost use Rattle.listings.specs.Contract.{Wrote};
 ghost use Rattle.std.specs.Prelude.{[], ◌∷◌};
-
-const MOST: usize = 18_446_744_073_709_551_615;
 
 const BLANK: u8 = b' ';
 
@@ -14,12 +13,8 @@ pub fn put(out: &mut [u8], at: usize, byte: u8) -> usize
 {
     if at < out.len() {
         out[at] = byte;
-        return at + 1;
     }
-    if at == MOST {
-        return at;
-    }
-    at + 1
+    at.saturating_add(1)
 }
 
 // Several bytes.
@@ -27,13 +22,14 @@ pub fn word(out: &mut [u8], at: usize, bytes: &[u8]) -> usize
     ensures { Wrote bytes.now out.old at out.new result }
 {
     let mut next = at;
-    for i in 0..bytes.len() {
-        next = put(out, next, bytes[i]);
+    for &byte in bytes {
+        next = put(out, next, byte);
     }
     next
 }
 
-// A number in decimal digits, with no 0 in front: what stands before its last digit is a number too.
+// A number in decimal digits, with no 0 in front: what stands before its last digit is a number too. `write!` is no plainer, since it hands back a
+// `fmt::Result` that counting never needs.
 pub fn number(out: &mut [u8], at: usize, n: usize) -> usize
     ensures { Wrote (decimal n) out.old at out.new result }
 {
@@ -57,8 +53,8 @@ pub fn fields(out: &mut [u8], at: usize, numbers: &[u32]) -> usize
     ensures { Wrote (numbered numbers.now) out.old at out.new result }
 {
     let mut next = at;
-    for i in 0..numbers.len() {
-        next = field(out, next, numbers[i] as usize);
+    for &n in numbers {
+        next = field(out, next, n as usize);
     }
     next
 }

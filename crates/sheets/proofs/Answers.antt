@@ -3,13 +3,13 @@
 use Prim.Native.Nat.{ℕ, ◌+◌, ◌≤◌, ◌<◌}
 use mathlib.Core.Bool.{true, false}
 use mathlib.Core.List.{List, ◌++◌, append_assoc}
-use mathlib.Core.Option.{Option, none, some}
 use mathlib.Core.Path.{◌≡◌, refl, sym, ◌∙◌}
 use native.Mathlib.Omega.{arith}
 use borrow.Author.Tests.{leb-true, leb-false}
 use lib.Dec.{leb}
 use lib.ListN.{length, drop, length-append}
 use lib.Seq.{take_at, drop_at, drop-drop}
+use Rattle.std.specs.Prelude.{Option, Some, None, Result, Ok, Err}
 use Rattle.rules.specs.Checks.{Tables}
 use Rattle.rules.specs.Run.{over}
 use Rattle.rules.specs.Sheet.{bytes_from, text_at, tables_of, readable, read}
@@ -19,26 +19,23 @@ use Rattle.rules.proofs.Characters.{either}
 use Rattle.rules.proofs.Sheet.{whole, text-inside, text-long, numbers-few}
 use Rattle.sheets.specs.Contract.{Reads, numbers_of, sections_of}
 use Rattle.sheets.specs.declared.sections.Sections.{Sections}
-use Rattle.sheets.specs.declared.sheet.Sheet.{Sheet}
-use Rattle.sheets.specs.declared.sheet.Sheet.TheVariants.{Read, Refused, NoRoom}
+use Rattle.sheets.specs.declared.sheet.Unread.{Unread}
+use Rattle.sheets.specs.declared.sheet.Unread.TheVariants.{Refused, NoRoom}
 
 -- ---- one answer, and one buffer
-pub only_read : {tables : Option Tables} {numbers v w : List ℕ} {r s : Sheet} → Reads tables numbers r v → Reads tables numbers s w
+pub only_read : {tables : Option Tables} {numbers v w : List ℕ} {r s : Result Sections Unread} → Reads tables numbers r v → Reads tables numbers s w
     → (r ≡ s) × (v ≡ w)
 only_read a b = (a.answer ∙ sym b.answer, a.written ∙ sym b.written)
 
 -- ---- a sheet that is read
 pub record Told (sheet : List ℕ) (t : Tables) (s : Sections) (numbers : List ℕ) : Type 0 where
-  pub tables : read sheet ≡ some t
+  pub tables : read sheet ≡ Some t
   pub inside : bytes_from text_at + s.text ≤ length sheet
   pub text : part sheet (bytes_from text_at) s.text ≡ t.text
   pub room : s.tokens + s.shapes + s.states ≤ length numbers
   pub tokens : part numbers 0 s.tokens ≡ t.tokens
   pub shapes : part numbers s.tokens s.shapes ≡ t.shapes
   pub states : part numbers (s.tokens + s.shapes) s.states ≡ t.states
-
-never : {A : Type 0} → ◌≡◌ {A = ℕ} 0 1 → A
-never e = absurd (omega arith)
 
 -- three lists one behind the other, found again by their lengths
 module _ (a b c d : List ℕ) where
@@ -80,13 +77,13 @@ stands sheet numbers ok room =
 abbrev count : List ℕ → ℕ
 count sheet = length (numbers_of (tables_of sheet))
 
-data Came (sheet numbers : List ℕ) (r : Sheet) (v : List ℕ) : Type 0 where
-  refused : readable sheet ≡ false → r ≡ Refused → Came sheet numbers r v
-  no_room : readable sheet ≡ true → length numbers < count sheet → r ≡ NoRoom (count sheet) → Came sheet numbers r v
-  all_read : readable sheet ≡ true → count sheet ≤ length numbers → r ≡ Read (sections_of (tables_of sheet))
+data Came (sheet numbers : List ℕ) (r : Result Sections Unread) (v : List ℕ) : Type 0 where
+  refused : readable sheet ≡ false → r ≡ Err Refused → Came sheet numbers r v
+  no_room : readable sheet ≡ true → length numbers < count sheet → r ≡ Err (NoRoom (count sheet)) → Came sheet numbers r v
+  all_read : readable sheet ≡ true → count sheet ≤ length numbers → r ≡ Ok (sections_of (tables_of sheet))
       → v ≡ over (numbers_of (tables_of sheet)) numbers → Came sheet numbers r v
 
-came : (sheet : List ℕ) {numbers v : List ℕ} {r : Sheet} → Reads (read sheet) numbers r v → Came sheet numbers r v
+came : (sheet : List ℕ) {numbers v : List ℕ} {r : Result Sections Unread} → Reads (read sheet) numbers r v → Came sheet numbers r v
 unfolding read
 came sheet {numbers} k =
     either (readable sheet)
@@ -96,35 +93,35 @@ came sheet {numbers} k =
     (λ more. no_room ok (leb-false _ _ more) (rw (ok, more) at k.answer)))
     (λ bad. refused bad (rw bad at k.answer))
 
-module _ {sheet numbers v : List ℕ} {r : Sheet} where
-  none_where_refused : Came sheet numbers r v → r ≡ Refused → read sheet ≡ none
+module _ {sheet numbers v : List ℕ} {r : Result Sections Unread} where
+  none_where_refused : Came sheet numbers r v → r ≡ Err Refused → read sheet ≡ None
   unfolding read
   none_where_refused (refused bad is) e = rw bad
-  none_where_refused (no_room ok more is) e = never (cc)
-  none_where_refused (all_read ok room is all) e = never (cc)
+  none_where_refused (no_room ok more is) e = cc
+  none_where_refused (all_read ok room is all) e = cc
 
-  never_without_room : {n : ℕ} → most_numbers ≤ length numbers → Came sheet numbers r v → r ≡ NoRoom n → ⊥
-  never_without_room enough (refused bad is) e = never (cc)
+  never_without_room : {n : ℕ} → most_numbers ≤ length numbers → Came sheet numbers r v → r ≡ Err (NoRoom n) → ⊥
+  never_without_room enough (refused bad is) e = cc
   never_without_room enough (no_room ok more is) e =
       let few = numbers-few sheet (whole sheet ok) in
       let room : count sheet ≤ most_numbers = simp length-append few in
       omega arith
-  never_without_room enough (all_read ok room is all) e = never (cc)
+  never_without_room enough (all_read ok room is all) e = cc
 
-  told-where_read : {s : Sections} → Came sheet numbers r v → r ≡ Read s → Told sheet (tables_of sheet) s v
-  told-where_read (refused bad is) e = never (cc)
-  told-where_read (no_room ok more is) e = never (cc)
+  told-where_read : {s : Sections} → Came sheet numbers r v → r ≡ Ok s → Told sheet (tables_of sheet) s v
+  told-where_read (refused bad is) e = absurd (cc)
+  told-where_read (no_room ok more is) e = absurd (cc)
   told-where_read {s} (all_read ok room is all) e =
       let same : sections_of (tables_of sheet) ≡ s = cc in
       rw (← same, all) (stands sheet numbers ok room)
 
-module _ (sheet : List ℕ) {numbers v : List ℕ} {r : Sheet} (k : Reads (read sheet) numbers r v) where
-  pub told-refused : r ≡ Refused → read sheet ≡ none
+module _ (sheet : List ℕ) {numbers v : List ℕ} {r : Result Sections Unread} (k : Reads (read sheet) numbers r v) where
+  pub told-refused : r ≡ Err Refused → read sheet ≡ None
   told-refused is = none_where_refused (came sheet k) is
 
   -- a buffer of so many numbers has room for every sheet's
-  pub always_room : {n : ℕ} → most_numbers ≤ length numbers → r ≡ NoRoom n → ⊥
+  pub always_room : {n : ℕ} → most_numbers ≤ length numbers → r ≡ Err (NoRoom n) → ⊥
   always_room enough is = never_without_room enough (came sheet k) is
 
-  pub told : {s : Sections} → r ≡ Read s → Told sheet (tables_of sheet) s v
+  pub told : {s : Sections} → r ≡ Ok s → Told sheet (tables_of sheet) s v
   told is = told-where_read (came sheet k) is

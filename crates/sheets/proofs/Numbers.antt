@@ -1,7 +1,7 @@
 -- Numbers that are read into a lent buffer: one number more. Assumes nothing.
 use Prim.Native.Nat.{ℕ, suc, ◌+◌, ◌*◌, ◌<◌}
 use mathlib.Core.List.{List, [], ◌∷◌, ◌++◌, append_assoc}
-use mathlib.Core.Path.{◌≡◌, refl}
+use mathlib.Core.Path.{◌≡◌}
 use native.Mathlib.Numerals.{add-one}
 use native.Mathlib.Omega.{arith}
 use lib.ListN.{length, drop, set}
@@ -11,10 +11,6 @@ use Rattle.rules.proofs.Sheet.{numbers-long, numbers_more}
 
 -- ---- a part whose first i numbers are the sheet's
 module _ (sheet : List ℕ) where
-  pub read_none : (part : List ℕ) (from : ℕ) → part ≡ numbers_at sheet from 0 ++ drop 0 part
-  unfolding numbers_at
-  read_none part from = refl
-
   module _ (t : List ℕ) (from i : ℕ) {part : List ℕ} (so_far : part ≡ numbers_at sheet from i ++ drop i t) where
     pub read_more : i < length t → {n : ℕ} → n ≡ number_at sheet (from + i * number_bytes)
         → set part i n ≡ numbers_at sheet from (i + 1) ++ drop (i + 1) t

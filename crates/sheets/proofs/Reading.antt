@@ -9,13 +9,14 @@ use native.Mathlib.Omega.{arith}
 use borrow.Author.Tests.{le-leb, lt-leb}
 use lib.ListN.{length, take, drop, length-append}
 use lib.Seq.{take_at, drop_at, drop-drop}
+use Rattle.std.specs.Prelude.{Ok, Err}
 use Rattle.rules.specs.Run.{over}
 use Rattle.rules.specs.Sheet.{number_bytes, number_at, tokens_at, shapes_at, states_at, table_at, tables_of, readable, read}
 use Rattle.rules.proofs.Sheet.{table_long, whole, text-long}
-use Rattle.sheets.specs.Contract.{Counted, Room, with_table, Reads, numbers_of, sections_of}
+use Rattle.sheets.specs.Contract.{Placed, Counted, Room, with_table, Reads, numbers_of, sections_of}
 use Rattle.sheets.specs.declared.sections.Places.{Places}
 use Rattle.sheets.specs.declared.sections.Sections.{Sections}
-use Rattle.sheets.specs.declared.sheet.Sheet.TheVariants.{Read, Refused, NoRoom}
+use Rattle.sheets.specs.declared.sheet.Unread.TheVariants.{Refused, NoRoom}
 
 -- the first numbers of a buffer are `done`, and all behind them as they were
 pub record Done (numbers done : List ℕ) (count : ℕ) (v : List ℕ) : Type 0 where
@@ -40,7 +41,7 @@ next sheet numbers at {count = count} {from} {done} {v} so_far fits here counted
     }
 
 module _ (sheet numbers : List ℕ) where
-  pub refused : readable sheet ≡ false → Reads (read sheet) numbers Refused numbers
+  pub refused : readable sheet ≡ false → Reads (read sheet) numbers (Err Refused) numbers
   unfolding read
   refused no-sheet = record { answer = rw no-sheet; refusal = rw no-sheet; written = rw no-sheet }
 
@@ -62,7 +63,7 @@ module _ (sheet numbers : List ℕ) where
       counted = rw (text-long sheet (whole sheet ok) ∙ sym counts.text, tokens-long, shapes-long, states-long)
 
       pub no_room : length numbers < s.tokens + s.shapes + s.states
-          → Reads (read sheet) numbers (NoRoom (s.tokens + s.shapes + s.states)) numbers
+          → Reads (read sheet) numbers (Err (NoRoom (s.tokens + s.shapes + s.states))) numbers
       unfolding read
       no_room more =
           let all = total in
@@ -70,7 +71,7 @@ module _ (sheet numbers : List ℕ) where
           record { answer = rw (ok, lt-leb _ _ longer, all); refusal = rw ok; written = rw (ok, lt-leb _ _ longer) }
 
       pub all_read : {v : List ℕ} → s.tokens + s.shapes + s.states ≤ length numbers → v ≡ over (numbers_of (tables_of sheet)) numbers
-          → Reads (read sheet) numbers (Read s) v
+          → Reads (read sheet) numbers (Ok s) v
       unfolding read
       all_read fits written =
           let all = total in
@@ -78,13 +79,12 @@ module _ (sheet numbers : List ℕ) where
           record { answer = rw (ok, le-leb _ _ room, counted); refusal = rw ok; written = rw (ok, le-leb _ _ room) written }
 
 -- the three tables one behind the other
-pub filled : (sheet numbers : List ℕ) {p : Places} {s : Sections} {one two three : List ℕ} → Room sheet p s numbers
+pub filled : (sheet numbers : List ℕ) {p : Places} {s : Sections} {one two three : List ℕ} → Placed sheet p → Room sheet s numbers
     → one ≡ with_table sheet p.tokens 0 s.tokens numbers
     → two ≡ with_table sheet p.shapes s.tokens s.shapes one
     → three ≡ with_table sheet p.states (s.tokens + s.shapes) s.states two
     → three ≡ over (numbers_of (tables_of sheet)) numbers
-filled sheet numbers {s = s} room tokens-in shapes-in states-in =
-    let placed = room.placed in
+filled sheet numbers {s = s} placed room tokens-in shapes-in states-in =
     let counts = room.counted in
     let fits = room.fits in
     let none : Done numbers [] 0 numbers = record { is = refl; long = refl; fits = omega arith } in

@@ -1,14 +1,14 @@
 -- What the contracts say of the lent numbers that a sheet is read into.
-use Rattle.std.specs.Prelude.{ℕ, ◌+◌, ◌/◌, ◌^◌, ◌≤◌, ◌<◌, cond, List, ◌++◌, ◌≡◌, leb, length, take, drop}
-use Rattle.std.proofs.Math.Option.{Option, none, some}
+use Rattle.std.specs.Prelude.{ℕ, ◌+◌, ◌/◌, ◌^◌, ◌≤◌, ◌<◌, cond, ◌&&◌, List, ◌++◌, ◌≡◌, leb, length, take, drop, Option, Some, None, Result, Ok, Err}
 use Rattle.rules.specs.Checks.{Tables, Refusal}
 use Rattle.rules.specs.Run.{over}
-use Rattle.rules.specs.Sheet.{number_bytes, number_at, text_at, tokens_at, shapes_at, states_at, table_at, end_of, unreadable}
+use Rattle.rules.specs.Sheet.{number_bytes, number_at, bytes_from, text_at, tokens_at, shapes_at, states_at, table_at, end_of, unreadable}
+use Rattle.rules.specs.Tables.{part}
 use Rattle.sheets.specs.Stands.{refusal_of}
 use Rattle.sheets.specs.declared.sections.Places.{Places}
 use Rattle.sheets.specs.declared.sections.Sections.{Sections}
-use Rattle.sheets.specs.declared.sheet.Sheet.{Sheet}
-use Rattle.sheets.specs.declared.sheet.Sheet.TheVariants as sheet
+use Rattle.sheets.specs.declared.sheet.Unread.{Unread}
+use Rattle.sheets.specs.declared.sheet.Unread.TheVariants.{Refused, NoRoom}
 
 -- the places of a sheet's lengths; no sum of them passes 40 bits
 pub record Placed (bytes : List ℕ) (p : Places) : Type 0 where
@@ -31,8 +31,7 @@ pub record Counted (bytes : List ℕ) (s : Sections) : Type 0 where
   pub states-low : s.states < 2 ^ 30
 
 -- so many numbers have room for all that the sections claim
-pub record Room (bytes : List ℕ) (p : Places) (s : Sections) (numbers : List ℕ) : Type 0 where
-  pub placed : Placed bytes p
+pub record Room (bytes : List ℕ) (s : Sections) (numbers : List ℕ) : Type 0 where
   pub counted : Counted bytes s
   pub fits : s.tokens + s.shapes + s.states ≤ length numbers
 
@@ -47,21 +46,34 @@ numbers_of t = t.tokens ++ (t.shapes ++ t.states)
 abbrev pub sections_of : Tables → Sections
 sections_of t = record { text = length t.text; tokens = length t.tokens; shapes = length t.shapes; states = length t.states }
 
+-- the tables that stand in a sheet and in numbers where the sections say; none where either of them has less
+abbrev pub tables_in : Sections → List ℕ → List ℕ → Option Tables
+tables_in s sheet numbers =
+    cond (leb (bytes_from text_at + s.text) (length sheet) && leb (s.tokens + s.shapes + s.states) (length numbers))
+    (Some
+    (record {
+      text = part sheet (bytes_from text_at) s.text;
+      tokens = part numbers 0 s.tokens;
+      shapes = part numbers s.tokens s.shapes;
+      states = part numbers (s.tokens + s.shapes) s.states;
+    }))
+    None
+
 -- the answer for a sheet of these tables, or of none, when so many numbers are lent; and what the numbers are afterwards
-abbrev pub answer_for : Option Tables → ℕ → Sheet
-answer_for none room = sheet.Refused
-answer_for (some t) room = cond (leb (length (numbers_of t)) room) (sheet.Read (sections_of t)) (sheet.NoRoom (length (numbers_of t)))
+abbrev pub answer_for : Option Tables → ℕ → Result Sections Unread
+answer_for None room = Err Refused
+answer_for (Some t) room = cond (leb (length (numbers_of t)) room) (Ok (sections_of t)) (Err (NoRoom (length (numbers_of t))))
 
 abbrev pub numbers_after : Option Tables → List ℕ → List ℕ
-numbers_after none numbers = numbers
-numbers_after (some t) numbers = cond (leb (length (numbers_of t)) (length numbers)) (over (numbers_of t) numbers) numbers
+numbers_after None numbers = numbers
+numbers_after (Some t) numbers = cond (leb (length (numbers_of t)) (length numbers)) (over (numbers_of t) numbers) numbers
 
 -- refused 9 where the sheet is of no tables
 abbrev pub refused_for : Option Tables → Option Refusal
-refused_for none = some (unreadable, 0)
-refused_for (some t) = none
+refused_for None = Some (unreadable, 0)
+refused_for (Some t) = None
 
-pub record Reads (tables : Option Tables) (numbers : List ℕ) (r : Sheet) (after : List ℕ) : Type 0 where
+pub record Reads (tables : Option Tables) (numbers : List ℕ) (r : Result Sections Unread) (after : List ℕ) : Type 0 where
   pub answer : r ≡ answer_for tables (length numbers)
   pub refusal : refusal_of r ≡ refused_for tables
   pub written : after ≡ numbers_after tables numbers

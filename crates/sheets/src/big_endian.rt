@@ -1,6 +1,6 @@
 // Numbers of four bytes, big-endian. A byte past the end counts as 0.
-ghost use Rattle.std.specs.Prelude.{◌≡◌, ◌+◌, ◌≤◌, ◌<◌, ◌^◌, length, get_or};
-ghost use Rattle.rules.specs.Sheet.{number_at, numbers_at, number_bytes};
+ghost use Rattle.std.specs.Prelude.{◌≡◌, ◌<◌, ◌^◌, length, get_or};
+ghost use Rattle.rules.specs.Sheet.{number_at, numbers_at};
 
 #[derive(Clone, Copy)]
 pub struct Bytes;
@@ -10,35 +10,47 @@ impl Bytes {
     pub const NUMBER: usize = 4;
 }
 
+fn octet(bytes: &[u8], at: usize) -> u8
+    ensures { result ≡ get_or bytes.now at 0 }
+{
+    bytes.get(at).copied().unwrap_or(0)
+}
+
 // The byte at a place, or 0 past the end.
 pub fn byte(bytes: &[u8], at: usize) -> usize
     ensures { (result ≡ get_or bytes.now at 0) × (result < 256) }
 {
-    if at < bytes.len() {
-        return bytes[at] as usize;
-    }
-    0
+    usize::from(octet(bytes, at))
 }
 
-// The number whose first byte stands at a place. It has 32 bits and comes in 64, since lengths are summed.
+// The number whose first byte stands at a place.
+#[tactic(auto, unfolding(rules::specs::Sheet::number_at))]
+fn word(bytes: &[u8], at: usize) -> u32
+    ensures { result ≡ number_at bytes.now at }
+{
+    let rest = bytes.get(at..).unwrap_or(&[]);
+    u32::from_be_bytes([
+        octet(rest, 0),
+        octet(rest, 1),
+        octet(rest, 2),
+        octet(rest, 3),
+    ])
+}
+
+// The same number in 64 bits, since lengths are summed.
 pub fn number(bytes: &[u8], at: usize) -> usize
-    requires { at + number_bytes ≤ 2 ^ 64 }
     ensures { (result ≡ number_at bytes.now at) × (result < 2 ^ 32) }
 {
-    let first = byte(bytes, at);
-    let second = byte(bytes, at + 1);
-    let third = byte(bytes, at + 2);
-    let fourth = byte(bytes, at + 3);
-    ((first * 256 + second) * 256 + third) * 256 + fourth
+    word(bytes, at) as usize
 }
 
 // Numbers one after the other, from a place on, as many as the lent part has.
+#[tactic(auto, using(crate::proofs::Numbers::read_more), unfolding(rules::specs::Sheet::numbers_at))]
 pub fn numbers(bytes: &[u8], from: usize, part: &mut [u32])
     requires { from < 2 ^ 62 }
     ensures { part.new ≡ numbers_at bytes.now from (length part.old) }
 {
-    for i in 0..part.len() {
-        let at = from + i * Bytes::NUMBER;
-        part[i] = number(bytes, at) as u32;
+    for (i, number) in part.iter_mut().enumerate() {
+        *number = word(bytes, from + i * Bytes::NUMBER);
     }
 }

@@ -3,9 +3,12 @@
 #![tactic(auto)]
 
 mod big_endian;
+mod input;
+mod placed;
 mod sections;
 mod sheet;
 
 pub use big_endian::{byte, number};
+pub use input::read_full;
 pub use sections::Sections;
-pub use sheet::{Sheet, read};
+pub use sheet::{Unread, read};

@@ -1,13 +1,16 @@
-// The four sections of a sheet: where the length of each stands, and what is asked of them.
+// The four sections of a sheet: how much each has, and where the length of each stands.
 ghost use Rattle.std.specs.Prelude.{◌≡◌, ◌+◌, ◌<◌, ◌^◌, [], ◌∷◌};
-ghost use Rattle.rules.specs.Sheet.{most_bytes, version, text_at, bytes_from, end_of, whole_numbers, readable};
+ghost use Rattle.rules.specs.Sheet.{most_bytes, version, text_at, bytes_from, end_of};
 ghost use Rattle.rules.specs.Treelist.{most_numbers};
-ghost use Rattle.sheets.specs.Contract.{Placed, Counted};
+ghost use Rattle.std.specs.Option.{option_map};
+ghost use Rattle.sheets.specs.Contract.{Placed, tables_in};
+ghost use Rattle.syntax.specs.Tables.{tables_of};
 
-use crate::big_endian::{Bytes, byte, number};
+use crate::big_endian::{Bytes, number};
+use syntax::Tables;
 
 // How many bytes the text has, and how many numbers each table.
-#[derive(Clone, Copy)]
+#[derive(Clone, Copy, Default, PartialEq, Eq)]
 pub struct Sections {
     pub text: usize,
     pub tokens: usize,
@@ -27,7 +30,24 @@ impl Sections {
     // The numbers of every sheet that is read have room in so many.
     pub const MOST_NUMBERS: usize = 8_192;
 
-    // All of them, in order. The contract holds each to the rules' number.
+    // The tables of a sheet of these sections, and of the numbers that were read of it: none where the sheet or the numbers have less.
+    pub fn tables<'a>(self, sheet: &'a [u8], numbers: &'a [u32]) -> Option<Tables<'a>>
+        ensures { option_map tables_of result ≡ tables_in self sheet.entry.now numbers.entry.now }
+    {
+        let (_, bytes) = sheet.split_at_checked(Self::TEXT_BYTES)?;
+        let (text, _) = bytes.split_at_checked(self.text)?;
+        let (tokens, behind_tokens) = numbers.split_at_checked(self.tokens)?;
+        let (shapes, behind_shapes) = behind_tokens.split_at_checked(self.shapes)?;
+        let (states, _) = behind_shapes.split_at_checked(self.states)?;
+        Some(Tables {
+            text,
+            tokens,
+            shapes,
+            states,
+        })
+    }
+
+    // All constants, in order. The contract holds each to the rules' number.
     pub fn numbers() -> [usize; 5]
         ensures { result ≡ (most_bytes ∷ version ∷ text_at ∷ bytes_from text_at ∷ most_numbers ∷ []) }
     {
@@ -67,54 +87,9 @@ pub fn places_of(sheet: &[u8]) -> Places
     let shapes = end_of(sheet, tokens);
     let states = end_of(sheet, shapes);
     Places {
-        tokens: tokens,
-        shapes: shapes,
-        states: states,
+        tokens,
+        shapes,
+        states,
         end: end_of(sheet, states),
-    }
-}
-
-// Whether a section has whole numbers.
-fn whole_numbers(sheet: &[u8], at: usize) -> bool
-    requires { at < 2 ^ 40 }
-    ensures { result ≡ whole_numbers sheet.now at }
-{
-    number(sheet, at) % Bytes::NUMBER == 0
-}
-
-// Whether the sheet is not longer than a sheet may be, of the version, neither cut short nor followed by more, and its tables have whole numbers.
-#[tactic(auto, using(std::proofs::lemmas::Bool::Decides::nat_tests), unfolding(rules::specs::Sheet::readable))]
-pub fn readable(sheet: &[u8], places: Places) -> bool
-    requires { Placed sheet.now places }
-    ensures { result ≡ readable sheet.now }
-{
-    if Sections::MOST_BYTES < sheet.len() {
-        return false;
-    }
-    if byte(sheet, 0) != Sections::VERSION {
-        return false;
-    }
-    if places.end != sheet.len() {
-        return false;
-    }
-    if !whole_numbers(sheet, places.tokens) {
-        return false;
-    }
-    if !whole_numbers(sheet, places.shapes) {
-        return false;
-    }
-    whole_numbers(sheet, places.states)
-}
-
-// How much each section has.
-pub fn sections_of(sheet: &[u8], places: Places) -> Sections
-    requires { Placed sheet.now places }
-    ensures { Counted sheet.now result }
-{
-    Sections {
-        text: number(sheet, Sections::TEXT),
-        tokens: number(sheet, places.tokens) / Bytes::NUMBER,
-        shapes: number(sheet, places.shapes) / Bytes::NUMBER,
-        states: number(sheet, places.states) / Bytes::NUMBER,
     }
 }

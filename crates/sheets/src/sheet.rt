@@ -5,13 +5,12 @@ ghost use Rattle.rules.specs.Sheet.{number_at, number_bytes, read, tables_of};
 ghost use Rattle.sheets.specs.Contract.{Room, with_table, numbers_of, Reads};
 
 use crate::big_endian::{Bytes, numbers};
-use crate::sections::{Places, Sections, places_of, readable, sections_of};
+use crate::placed::Sheet;
+use crate::sections::Sections;
 
-// What a sheet comes to. Only one that is read writes: the numbers of its tokens, its shapes and its states, one table behind the other.
-// Its text are the bytes from `Sections::TEXT_BYTES` on.
-#[derive(Clone, Copy)]
-pub enum Sheet {
-    Read(Sections),
+// Why a sheet is not read.
+#[derive(Clone, Copy, PartialEq, Eq)]
+pub enum Unread {
     // Refusal 9.
     Refused,
     // The sheet could be read, into a buffer of so many numbers.
@@ -28,31 +27,33 @@ fn fill_table(sheet: &[u8], at: usize, table: &mut [u32], from: usize, count: us
 }
 
 // The numbers of the three tables, one table behind the other, into a buffer that has room for them.
-fn fill(sheet: &[u8], places: Places, sections: Sections, table: &mut [u32])
-    requires { Room sheet.now places sections table.old }
-    ensures { table.new ≡ over (numbers_of (tables_of sheet.now)) table.old }
+fn fill(sheet: &Sheet<'_>, sections: Sections, table: &mut [u32])
+    requires { Room sheet.now.bytes.now sections table.old }
+    ensures { table.new ≡ over (numbers_of (tables_of sheet.entry.now.bytes.now)) table.old }
 {
     let shapes = sections.tokens;
     let states = shapes + sections.shapes;
-    fill_table(sheet, places.tokens, table, 0, sections.tokens);
-    fill_table(sheet, places.shapes, table, shapes, sections.shapes);
-    fill_table(sheet, places.states, table, states, sections.states);
+    let places = sheet.places;
+    fill_table(sheet.bytes, places.tokens, table, 0, sections.tokens);
+    fill_table(sheet.bytes, places.shapes, table, shapes, sections.shapes);
+    fill_table(sheet.bytes, places.states, table, states, sections.states);
 }
 
-// The tables of a sheet. Nothing is asked of its bytes, nor of the buffer's length.
-pub fn read(sheet: &[u8], table: &mut [u32]) -> Sheet
+// The tables of a sheet. Nothing is asked of its bytes, nor of the buffer's length. Only a sheet that is read writes: the numbers of its tokens, its
+// shapes and its states, one table behind the other. Its text are the bytes from `Sections::TEXT_BYTES` on.
+pub fn read(sheet: &[u8], table: &mut [u32]) -> Result<Sections, Unread>
     ensures { Reads (read sheet.now) table.old result table.new }
 {
-    let places = places_of(sheet);
-    if !readable(sheet, places) {
-        return Sheet::Refused;
+    let placed = Sheet::of(sheet);
+    if !placed.readable() {
+        return Err(Unread::Refused);
     }
-    let sections = sections_of(sheet, places);
+    let sections = placed.sections();
     let before_states = sections.tokens + sections.shapes;
     let needed = before_states + sections.states;
     if table.len() < needed {
-        return Sheet::NoRoom(needed);
+        return Err(Unread::NoRoom(needed));
     }
-    fill(sheet, places, sections, table);
-    Sheet::Read(sections)
+    fill(&placed, sections, table);
+    Ok(sections)
 }

@@ -1,12 +1,12 @@
 -- What is printed of a sheet that is read is the listing of its run; and the lines of every answer have room, since no row's line has more than five
 -- numbers of 32 bits. Assumes nothing.
 use Prim.Native.Nat.{ℕ, ◌*◌, ◌≤◌}
-use mathlib.Core.Bool.{true, false}
 use mathlib.Core.List.{List}
-use mathlib.Core.Path.{◌≡◌, sym, ap, ◌∙◌}
+use mathlib.Core.Path.{◌≡◌, sym, ◌∙◌}
 use native.Mathlib.Omega.{arith}
 use borrow.Author.Tests.{le-leb}
 use lib.ListN.{length, get_or}
+use Rattle.std.specs.Prelude.{Result, Ok}
 use mir.Syntax.{w32}
 use mir.Val.{Fits}
 use Rattle.rules.specs.Limits.{tree_width, dropped_width}
@@ -17,39 +17,30 @@ use Rattle.rules.specs.Treelist.{tree_rows, dropped_rows, printed_ran, printed_o
 use Rattle.rules.proofs.Listing.{InWords, listing-few}
 use Rattle.listings.specs.Contract.{Lists}
 use Rattle.sheets.specs.Contract.{Reads}
-use Rattle.listings.specs.Stands.{Written, answer_of, written_of}
-use Rattle.listings.specs.declared.answer.Answer.{Answer}
-use Rattle.listings.specs.declared.listing.Listed.{Listed}
-use Rattle.listings.specs.declared.listing.Listed.TheVariants.{NoRoom}
+use Rattle.listings.specs.Stands.{answer_of}
+use Rattle.listings.specs.declared.answer.Counts.{Counts}
+use Rattle.listings.specs.declared.listing.NoRoom.{NoRoom}
 use Rattle.sheets.specs.declared.sections.Sections.{Sections}
-use Rattle.sheets.specs.declared.sheet.Sheet.{Sheet}
-use Rattle.sheets.specs.declared.sheet.Sheet.TheVariants.{Read}
+use Rattle.sheets.specs.declared.sheet.Unread.{Unread}
+use Rattle.syntax.specs.declared.refusal.Refused.{Refused}
 use Rattle.sheets.proofs.Answers.{told}
 use Rattle.treelist.specs.Contract.{Small, Prints}
 
 -- ---- what is printed of a sheet
-module _ (sheet tree dropped : List ℕ) {numbers after out v : List ℕ} {found : Sheet} {n : ℕ} (k : Reads (read sheet) numbers found after) where
-  pub of_run : {s : Sections} {ran : Ran} → found ≡ Read s → run (tables_of sheet) tree dropped ≡ ran → Prints (printed_ran ran) out n v
+module _ (sheet tree dropped : List ℕ) {numbers after out v : List ℕ} {found : Result Sections Unread} {n : ℕ}
+    (k : Reads (read sheet) numbers found after) where
+  pub of_run : {s : Sections} {ran : Ran} → found ≡ Ok s → run (tables_of sheet) tree dropped ≡ ran → Prints (printed_ran ran) out n v
       → Prints (printed_of tree dropped (read sheet)) out n v
   of_run is ran-is put = rw ((told sheet k is).tables, ran-is) put
 
 -- ---- the lines
-module _ {lines out v : List ℕ} {r : Listed} (room : length lines ≤ length out) (k : Lists lines out r v) where
-  says : written_of r ≡ record { whole = true; bytes = length lines }
-  says = rw (le-leb _ _ room) at k.says
-
-  never : {n : ℕ} → r ≡ NoRoom n → ⊥
-  never is =
-      let not-whole : false ≡ true = ap (λ (w : Written). w.whole) (rw is at says) in
-      let z : ◌≡◌ {A = ℕ} 0 1 = cc in
-      omega arith
-
 -- of any answer, on the program's buffers: they have room, since every number of a row has 32 bits
 abbrev Rows : List ℕ → Type 0
 Rows l = (i : ℕ) → Fits w32 (get_or l i 0)
 
-module _ (answer : Answer) (tree dropped : List ℕ) {out v : List ℕ} {r : Listed} (low : InWords (answer_of answer)) (tree_words : Rows tree)
-    (dropped_words : Rows dropped) (small : Small tree dropped out) (k : Lists (listing (answer_of answer) tree dropped) out r v) where
+module _ (answer : Result Counts Refused) (tree dropped : List ℕ) {out v : List ℕ} {r : Result ℕ NoRoom}
+    (low : InWords (answer_of answer)) (tree_words : Rows tree) (dropped_words : Rows dropped) (small : Small tree dropped out)
+    (k : Lists (listing (answer_of answer) tree dropped) out r v) where
   room : length (listing (answer_of answer) tree dropped) ≤ length out
   room =
       let of_tree : length tree ≤ tree_rows * tree_width = omega (arith, small.tree_rows) in
@@ -57,8 +48,8 @@ module _ (answer : Answer) (tree dropped : List ℕ) {out v : List ℕ} {r : Lis
       let few = listing-few (answer_of answer) tree dropped low (λ i. (tree_words i).fits) (λ i. (dropped_words i).fits) of_tree of_dropped in
       omega (arith, small.room)
 
-  pub never_short : {n : ℕ} → r ≡ NoRoom n → ⊥
-  never_short is = never room k is
+  pub all_written : r ≡ Ok (length (listing (answer_of answer) tree dropped))
+  all_written = let fits = room in k.answer ∙ rw (le-leb _ _ fits)
 
 -- ---- what is printed, and every byte of the buffer, are the only ones that meet the contract
 pub only_printed : {lines out v w : List ℕ} {r s : ℕ} → Prints lines out r v → Prints lines out s w → (r ≡ s) × (v ≡ w)

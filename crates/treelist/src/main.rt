@@ -1,30 +1,14 @@
 // Reads one sheet from standard input and writes what is printed of it to standard output. All that matters is in printed.rt and the crates below.
 #![tactic(auto)]
 
-ghost use Rattle.std.specs.Io.{ReadsAtMost};
-
 mod printed;
 mod sizes;
 
 use printed::print;
+use sheets::read_full;
 use sizes::Sizes;
 use std::io;
-use std::io::{Read, Write};
-
-// Reads until the buffer is full or the input ends: how many bytes of the buffer's front were read.
-fn read_full(input: &mut impl Read, buffer: &mut [u8]) -> io::Result<usize>
-    ensures { ReadsAtMost result buffer.new }
-{
-    let mut done = 0;
-    while done < buffer.len() {
-        let count = input.read(&mut buffer[done..])?;
-        if count == 0 {
-            break;
-        }
-        done += count;
-    }
-    Ok(done)
-}
+use std::io::Write;
 
 fn main(rt: HostRuntime) -> io::Result<()> {
     let mut sheet = [0u8; Sizes::SHEET];

@@ -10,17 +10,17 @@ ghost use Rattle.listings.specs.Stands.{answer_of};
 ghost use Rattle.sheets.proofs.Answers.{Told};
 
 use cartglaze::run;
-use listings::{Answer, Listed, list};
-use sheets::{Sections, Sheet, read};
-use syntax::Refusal;
+use listings::{Answer, Counts, list};
+use sheets::{Sections, Unread, read};
+use syntax::{Refusal, Refused};
 
 // The same answer, taken apart and put together, to say that its numbers are machine numbers: so the lines have room.
-fn answer_of(answer: Answer) -> Answer
+fn in_words(answer: Answer) -> Answer
     ensures { (answer_of result ≡ answer_of answer) × InWords (answer_of result) }
 {
     match answer {
-        Answer::Accepted(rows, count) => Answer::Accepted(rows, count),
-        Answer::Refused(number, place) => Answer::Refused(number, place),
+        Ok(Counts { rows, dropped }) => Ok(Counts { rows, dropped }),
+        Err(Refused { number, place }) => Err(Refused { number, place }),
     }
 }
 
@@ -33,37 +33,19 @@ fn run_sheet(
     dropped: &mut [u32],
 ) -> Answer
     requires { Told sheet.now (tables_of sheet.now) sections table.now }
-    ensures dropped_value { run (tables_of sheet.now) tree.old dropped.old
+    ensures { run (tables_of sheet.entry.now) tree.old dropped.old
         ≡ record { answer = answer_of result; tree = tree.new; dropped = dropped.new } }
-    ensures in_words { InWords (answer_of result) }
 {
-    let text = Sections::TEXT_BYTES;
-    let text_end = text + sections.text;
-    let tokens: usize = 0;
-    let shapes = tokens + sections.tokens;
-    let states = shapes + sections.shapes;
-    let end = states + sections.states;
-    let answer = run(
-        &sheet[text..text_end],
-        &table[tokens..shapes],
-        &table[shapes..states],
-        &table[states..end],
-        tree,
-        dropped,
-    );
-    answer_of(answer)
+    let tables = sections.tables(sheet, table).unwrap();
+    run(&tables, tree, dropped)
 }
 
 // The lines, which have room: how many bytes they have.
 fn list_all(answer: Answer, tree: &[u32], dropped: &[u32], out: &mut [u8]) -> usize
-    requires { InWords (answer_of answer) × Small tree.now dropped.now out.old }
+    requires { Small tree.now dropped.now out.old }
     ensures { Prints (listing (answer_of answer) tree.now dropped.now) out.old result out.new }
 {
-    let listed = list(answer, tree, dropped, out);
-    match listed {
-        Listed::Bytes(count) => count,
-        Listed::NoRoom(_) => 0,
-    }
+    list(in_words(answer), tree, dropped, out).unwrap()
 }
 
 // The lines of a sheet: those of its run, or refusal 9.
@@ -78,13 +60,11 @@ pub fn print(
     ensures { Prints (printed_of tree.old dropped.old (read sheet.now))
         out.old result out.new }
 {
-    let found = read(sheet, table);
-    match found {
-        Sheet::Read(sections) => {
-            let answer = run_sheet(sheet, sections, table, tree, dropped);
-            list_all(answer, tree, dropped, out)
-        }
-        Sheet::Refused => list_all(Answer::Refused(Refusal::SHEET, 0), tree, dropped, out),
-        Sheet::NoRoom(_) => 0,
-    }
+    let answer = match read(sheet, table) {
+        Ok(sections) => run_sheet(sheet, sections, table, tree, dropped),
+        Err(Unread::Refused) => Err(Refusal::Sheet.at(0)),
+        // The numbers of every sheet have room.
+        Err(Unread::NoRoom(_)) => unreachable!(),
+    };
+    list_all(answer, tree, dropped, out)
 }

@@ -23,8 +23,8 @@ module _ (numbers : List ℕ) (i : ℕ) {out whole out₀ : List ℕ} {at at₀ 
   none_left : length numbers ≤ i → Wrote whole out₀ at₀ out at
   none_left ended = ends (turns (no_more numbers i ended) left)
 
-pub loop-i-preserved : goal.loop-i-preserved
-loop-i-preserved c = search next_number
+pub loop-n-preserved : goal.loop-n-preserved
+loop-n-preserved c = search next_number
 
 pub returns : goal.returns
 returns c = search none_left

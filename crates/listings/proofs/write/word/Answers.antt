@@ -12,8 +12,8 @@ module _ (bytes : List ℕ) (i : ℕ) {out whole out₀ : List ℕ} {at at₀ : 
   none_left : length bytes ≤ i → Wrote whole out₀ at₀ out at
   none_left past = ends (turns (drop_of_length-le bytes past) left)
 
-pub loop-i-preserved : goal.loop-i-preserved
-loop-i-preserved c = search next_byte
+pub loop-byte-preserved : goal.loop-byte-preserved
+loop-byte-preserved c = search next_byte
 
 pub returns : goal.returns
 returns c = search none_left

@@ -1,4 +1,4 @@
--- The first i numbers of the part are the sheet's, the others are as they were.
+-- The first numbers of the part are the sheet's, the others are as they were.
 use Rattle.std.proofs.Common.{◌≡◌, ◌++◌, drop}
 use Rattle.rules.specs.Sheet.{numbers_at}
 use Rattle.sheets.proofs.big_endian.numbers.Given as goal

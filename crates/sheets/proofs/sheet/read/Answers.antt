@@ -5,10 +5,11 @@ use Rattle.sheets.proofs.Reading.{refused, no_room, all_read}
 use Rattle.sheets.proofs.sheet.read.Goals as goal
 
 pub returns-then-not-readable : goal.returns-then-not-readable
-returns-then-not-readable c = search (refused, missed)
+returns-then-not-readable c = rw (← c.of-placed.ensures) (search (refused, missed))
 
 pub returns-then-table-needed : goal.returns-then-table-needed
-returns-then-table-needed c = no_room _ _ c.sections_of-sections.ensures (search met) (omega arith)
+returns-then-table-needed c =
+    rw (← c.of-placed.ensures) (no_room _ _ c.sections-sections.ensures (search met) (omega arith))
 
 pub returns : goal.returns
-returns c = search (all_read, met)
+returns c = rw (← c.of-placed.ensures) (search (all_read, met))

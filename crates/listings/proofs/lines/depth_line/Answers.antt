@@ -1,7 +1,7 @@
 -- The depth and then the rest of the line.
 use Rattle.rules.specs.Listing.{line}
 use Rattle.listings.proofs.Writing.{then}
-use Rattle.listings.proofs.lines.leaf_line.Goals as goal
+use Rattle.listings.proofs.lines.depth_line.Goals as goal
 
 pub returns : goal.returns
 unfolding line

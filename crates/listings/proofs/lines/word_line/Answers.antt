@@ -1,7 +1,7 @@
--- The depth and then two numbers.
+-- The word and then the numbers.
 use Rattle.rules.specs.Listing.{line}
 use Rattle.listings.proofs.Writing.{then}
-use Rattle.listings.proofs.lines.start_line.Goals as goal
+use Rattle.listings.proofs.lines.word_line.Goals as goal
 
 pub returns : goal.returns
 unfolding line
