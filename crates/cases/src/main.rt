@@ -7,29 +7,14 @@ ghost use Rattle.std.specs.Io.{ReadsAtMost};
 ghost use Rattle.replay.specs.Tallied.{Tallies};
 
 use replay::{Replayed, Tally, replay};
-use sheets::number;
+use sheets::{number, read_full};
 use std::io::Read;
 use std::{fs, io};
 
 // Each case of the list has at most so many bytes.
 const LARGEST_CASE: usize = 65_536;
 
-// Reads until the buffer is full or the input ends: how many bytes of the buffer's front were read.
-fn read_full(input: &mut impl Read, buffer: &mut [u8]) -> io::Result<usize>
-    ensures { ReadsAtMost result buffer.new }
-{
-    let mut done = 0;
-    while done < buffer.len() {
-        let count = input.read(&mut buffer[done..])?;
-        if count == 0 {
-            break;
-        }
-        done += count;
-    }
-    Ok(done)
-}
-
-// The next case into the buffer: how many bytes it has, 0 at the end.
+// The next case into the buffer: how many bytes it has, 0 at the end, as `read` answers.
 fn read_case(input: &mut impl Read, case: &mut [u8]) -> io::Result<usize>
     ensures { ReadsAtMost result case.new }
 {
@@ -44,20 +29,14 @@ fn read_case(input: &mut impl Read, case: &mut [u8]) -> io::Result<usize>
     read_full(input, &mut case[..size])
 }
 
-// A case's replay, or that there is none left.
-#[derive(Clone, Copy)]
-enum Next {
-    End,
-    Case(Replayed),
-}
-
-fn replay_next(input: &mut impl Read) -> io::Result<Next> {
+// The next case's replay, none at the end.
+fn replay_next(input: &mut impl Read) -> io::Result<Option<Replayed>> {
     let mut case = [0u8; LARGEST_CASE];
     let size = read_case(input, &mut case)?;
     if size == 0 {
-        return Ok(Next::End);
+        return Ok(None);
     }
-    Ok(Next::Case(replay(&case[..size])))
+    Ok(Some(replay(&case[..size])))
 }
 
 // What came of the cases, of `Tally::MOST` at most.
@@ -65,9 +44,8 @@ fn replay_all(input: &mut impl Read) -> io::Result<Tally>
     ensures { IfOk result Tallies }
 {
     let mut tally = Tally::NONE;
-    while tally.cases < Tally::MOST {
-        let next = replay_next(input)?;
-        let Next::Case(replayed) = next else {
+    for _ in 0..Tally::MOST {
+        let Some(replayed) = replay_next(input)? else {
             break;
         };
         tally = tally.with(replayed);

@@ -5,38 +5,26 @@ ghost use Rattle.std.specs.Prelude.{◌≡◌, ◌^◌, ◌≤◌, ◌<◌, leng
 ghost use Rattle.rules.specs.Tables.{part};
 ghost use Rattle.compare.specs.Tells.{Tells, AllFrom};
 
-// A number of a buffer, which may be compared with one of 64 bits.
+// A number of a buffer, which may be compared with one of 64 bits. It stays beside `as usize`: `equations` (proofs/Only.antt) is about it.
 pub fn wide(x: u32) -> usize
     ensures { result ≡ x }
 {
     x as usize
 }
 
-// Whether so many first bytes are the same.
+// Whether so many first bytes are the same. One line, and no `==` at its caller, since `answers` and an edit speak of it.
 pub fn same(one: &[u8], other: &[u8], size: usize) -> bool
     requires { (size ≤ length one.now) × (size ≤ length other.now) }
     ensures { Tells (take size one.now ≡ take size other.now) result }
 {
-    for i in 0..size {
-        if one[i] != other[i] {
-            return false;
-        }
-    }
-    true
+    one[..size] == other[..size]
 }
 
 // Whether all numbers from one on are the same.
 pub fn all_from(buffer: &[u32], from: usize, value: u32) -> bool
     ensures { Tells (AllFrom buffer.now from value) result }
 {
-    let mut i = from;
-    while i < buffer.len() {
-        if buffer[i] != value {
-            return false;
-        }
-        i = i + 1;
-    }
-    true
+    buffer.iter().skip(from).all(|&number| number == value)
 }
 
 // Whether these numbers stand in the buffer from a place on.
@@ -47,10 +35,9 @@ pub fn stand_at(buffer: &[u32], from: usize, numbers: &[usize]) -> bool
     if buffer.len() < from + numbers.len() {
         return false;
     }
-    for i in 0..numbers.len() {
-        if wide(buffer[from + i]) != numbers[i] {
-            return false;
-        }
-    }
-    true
+    let there = &buffer[from..from + numbers.len()];
+    there
+        .iter()
+        .zip(numbers)
+        .all(|(&found, &number)| wide(found) == number)
 }

@@ -1,83 +1,62 @@
--- What is left of each list of texts at a loop's turn: its first text and the rest. Rows are taken apart over their width, so that tree rows and
--- dropped rows have the same laws. Assumes nothing.
-use Prim.Native.Nat.{ℕ, suc, ◌+◌, ◌*◌, ◌-◌, ◌≤◌, ◌<◌}
-use mathlib.Core.List.{List, ◌∷◌, ◌++◌}
-use mathlib.Core.Path.{◌≡◌, sym, ap, ◌∙◌}
-use native.Mathlib.Nat.{add-zero, suc-mul}
+-- What is left of each list of texts at a loop's turn: the text of its first row and those of the rest. Assumes nothing.
+use Prim.Native.Nat.{ℕ, zero, suc, ◌+◌, ◌*◌, ◌-◌, ◌≤◌, ◌<◌}
+use mathlib.Core.List.{List, [], ◌∷◌, ◌++◌}
+use mathlib.Core.Path.{◌≡◌, refl, sym, ap, ◌∙◌}
 use native.Mathlib.Numerals.{add-one}
 use native.Mathlib.Omega.{arith}
 use borrow.Author.Tests.{eq-eqb, ne_eqb}
 use lib.ListN.{length, get_or, take, drop}
-use lib.Seq.{take_at, drop-cons, drop-drop, get_or-take, get_or-drop, length-sets, sets-eq}
+use lib.Seq.{take_at, drop-cons, length-sets, sets-eq}
+use Rattle.std.proofs.lemmas.List.{get_or-take, get_or-drop}
+use Rattle.std.specs.Simd.{first_chunks}
 use Rattle.rules.specs.Flat.{tag_leaf}
-use Rattle.rules.specs.Limits.{tree_width, dropped_width}
+use Rattle.rules.specs.Limits.{token_width}
 use Rattle.rules.specs.Tables.{part}
 use Rattle.rules.specs.PutBack.{rows_of, leaves, texts_of, token_text, texts_from, with_texts, dropped_after, back_from}
 use Rattle.listings.specs.Contract.{most, Wrote}
 
-one_more : (n i : ℕ) → i < n → n - i ≡ suc (n - (i + 1))
-one_more n i h = omega arith
-
--- ---- a part of the text
-pub part-next : (text : List ℕ) (i end : ℕ) → i < end → end ≤ length text
-    → part text i (end - i) ≡ get_or text i 0 ∷ part text (i + 1) (end - (i + 1))
-part-next text i end h inside =
-    let here : i < length text = omega arith in
-    rw (one_more end i h, drop-cons text i 0 here, add-one i)
+-- the first rows of a buffer, which are cut out of it before they are counted
+pub rows_are : (width n k : ℕ) (buffer : List ℕ) → n ≤ k → take n (first_chunks width k buffer) ≡ rows_of width n buffer
+rows_are width zero k buffer fits = refl
+rows_are width (suc n) zero buffer fits = absurd (omega arith)
+rows_are width (suc n) (suc k) buffer fits =
+    ap (λ (rows : List (List ℕ)). take width buffer ∷ rows) (rows_are width n k (drop width buffer) (omega arith))
 
 -- ---- the texts of tokens from one on
-module _ (text tokens : List ℕ) (count : ℕ) where
-  pub tokens-next : (i : ℕ) → i < count
-      → texts_from text tokens i (count - i) ≡ token_text text tokens i ++ texts_from text tokens (i + 1) (count - (i + 1))
-  tokens-next i h = rw (one_more count i h)
-
--- ---- rows from one on
-abbrev pub rows_from : ℕ → List ℕ → ℕ → ℕ → List (List ℕ)
-rows_from width buffer n i = rows_of width (n - i) (drop (i * width) buffer)
-
-abbrev row : ℕ → List ℕ → ℕ → List ℕ
-row width buffer i = take width (drop (i * width) buffer)
-
-rows_next : (width : ℕ) (buffer : List ℕ) (n i : ℕ) → i < n → rows_from width buffer n i ≡ row width buffer i ∷ rows_from width buffer n (i + 1)
-rows_next width buffer n i h =
-    rw (one_more n i h, drop-drop width (i * width) buffer, add-one i, suc-mul i width)
-
-row_cell : (width : ℕ) (buffer : List ℕ) (i column : ℕ) → column < width → get_or (row width buffer i) column 0 ≡ get_or buffer (i * width + column) 0
-row_cell width buffer i column h = get_or-take width (drop (i * width) buffer) column 0 h ∙ get_or-drop (i * width) buffer column 0
-
--- the first number of a row stands where the row begins
-row_first : (width : ℕ) (buffer : List ℕ) (i : ℕ) → 0 < width → get_or (row width buffer i) 0 0 ≡ get_or buffer (i * width) 0
-row_first width buffer i h = row_cell width buffer i 0 h ∙ ap (λ (k : ℕ). get_or buffer k 0) (add-zero (i * width))
+pub tokens_next : (text tokens row : List ℕ) (count i : ℕ) → i < count → row ≡ part tokens (i * token_width) token_width
+    → texts_from text tokens i (count - i) ≡ part text (get_or row 1 0) (get_or row 2 0) ++ texts_from text tokens (i + 1) (count - (i + 1))
+tokens_next text tokens row count i more is =
+    let one : count - i ≡ suc (count - (i + 1)) = omega arith in
+    let cell : (column : ℕ) → column < token_width → get_or row column 0 ≡ get_or tokens (i * token_width + column) 0 = λ column low.
+    rw is (get_or-take token_width (drop (i * token_width) tokens) column 0 low ∙ get_or-drop (i * token_width) tokens column 0) in
+    rw (one, cell 1 (omega arith), cell 2 (omega arith))
 
 -- ---- what was dropped behind so many leaves, from a dropped row on
-module _ (text tokens dropped : List ℕ) (drops k : ℕ) where
+module _ (text tokens : List ℕ) (k : ℕ) (rows : List (List ℕ)) (i : ℕ) (more : i < length rows) where
   abbrev pub dropped_from : ℕ → List ℕ
-  dropped_from i = dropped_after k (with_texts text tokens (rows_from dropped_width dropped drops i))
+  dropped_from i = dropped_after k (with_texts text tokens (drop i rows))
 
-  pub dropped-here : (i : ℕ) → i < drops → get_or dropped (i * dropped_width + 2) 0 ≡ k
-      → dropped_from i ≡ token_text text tokens (get_or dropped (i * dropped_width) 0) ++ dropped_from (i + 1)
-  dropped-here i h e =
-      let next = rows_next dropped_width dropped drops i h in
-      rw (next, row_cell dropped_width dropped i 2 (omega arith), row_first dropped_width dropped i (omega arith), eq-eqb _ _ e)
+  pub dropped-here : get_or (get_or rows i []) 2 0 ≡ k
+      → dropped_from i ≡ token_text text tokens (get_or (get_or rows i []) 0 0) ++ dropped_from (i + 1)
+  dropped-here e = rw (drop-cons rows i [] more, add-one i, eq-eqb _ _ e) refl
 
-  pub dropped-elsewhere : (i : ℕ) → i < drops → (get_or dropped (i * dropped_width + 2) 0 ≡ k → ⊥) → dropped_from i ≡ dropped_from (i + 1)
-  dropped-elsewhere i h ne = rw (rows_next dropped_width dropped drops i h, row_cell dropped_width dropped i 2 (omega arith), ne_eqb _ _ ne)
+  pub dropped-elsewhere : (get_or (get_or rows i []) 2 0 ≡ k → ⊥) → dropped_from i ≡ dropped_from (i + 1)
+  dropped-elsewhere ne = rw (drop-cons rows i [] more, add-one i, ne_eqb _ _ ne) refl
 
 -- ---- what is put back, from a tree row on, before which there are so many leaves
-module _ (text tree : List ℕ) (rows : ℕ) (dropped : List (List ℕ × List ℕ)) where
-  abbrev pub back_at : ℕ → ℕ → List ℕ
-  back_at k i = back_from k (texts_of text (leaves (rows_from tree_width tree rows i))) dropped
+abbrev pub back_texts : List ℕ → List (List ℕ × List ℕ) → ℕ → List (List ℕ) → List ℕ
+back_texts text notes k rows = back_from k (texts_of text (leaves rows)) notes
 
-  pub back_leaf : (k i : ℕ) → i < rows → get_or tree (i * tree_width) 0 ≡ tag_leaf
-      → back_at k i
-      ≡ dropped_after k dropped ++ (part text (get_or tree (i * tree_width + 2) 0) (get_or tree (i * tree_width + 3) 0) ++ back_at (k + 1) (i + 1))
-  back_leaf k i h e =
-      let leaf : get_or (row tree_width tree i) 0 0 ≡ tag_leaf = row_first tree_width tree i (omega arith) ∙ e in
-      rw (rows_next tree_width tree rows i h, leaf, row_cell tree_width tree i 2 (omega arith), row_cell tree_width tree i 3 (omega arith))
+module _ (text : List ℕ) (notes : List (List ℕ × List ℕ)) (k : ℕ) (rows : List (List ℕ)) (i : ℕ) (more : i < length rows) where
+  pub back_leaf : get_or (get_or rows i []) 0 0 ≡ tag_leaf
+      → back_texts text notes k (drop i rows)
+      ≡ dropped_after k notes
+      ++ (part text (get_or (get_or rows i []) 2 0) (get_or (get_or rows i []) 3 0) ++ back_texts text notes (k + 1) (drop (i + 1) rows))
+  back_leaf e = rw (drop-cons rows i [] more, add-one i, eq-eqb _ _ e) refl
 
-  pub back_other : (k i : ℕ) → i < rows → (get_or tree (i * tree_width) 0 ≡ tag_leaf → ⊥) → back_at k i ≡ back_at k (i + 1)
-  back_other k i h ne =
-      rw (rows_next tree_width tree rows i h, row_first tree_width tree i (omega arith), ne_eqb _ _ ne)
+  pub back_other : (get_or (get_or rows i []) 0 0 ≡ tag_leaf → ⊥)
+      → back_texts text notes k (drop i rows) ≡ back_texts text notes k (drop (i + 1) rows)
+  back_other ne = rw (drop-cons rows i [] more, add-one i, ne_eqb _ _ ne) refl
 
 -- ---- what is written whole stands at the buffer's start
 pub written : {x t v : List ℕ} {r : ℕ} → Wrote x t 0 v r → length t < most → r ≤ length v → take r v ≡ x

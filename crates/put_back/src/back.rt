@@ -1,12 +1,12 @@
 // What was dropped of a run, put back among its leaf texts where the dropped list says, beside the token texts joined in order.
-ghost use Rattle.std.specs.Prelude.{◌≤◌, ◌/◌, length};
-ghost use Rattle.rules.specs.Limits.{dropped_width};
-ghost use Rattle.rules.specs.Questions.{row_count};
+ghost use Rattle.std.specs.Prelude.{◌≡◌, ◌≤◌, ◌<◌, ◌/◌, MatchOption, true, false, length};
+ghost use Rattle.rules.specs.PutBack.{stored, put_back, rows_of};
 ghost use Rattle.listings.specs.Contract.{Wrote};
-ghost use Rattle.put_back.specs.Back.{counted, back_of, Returned};
+ghost use Rattle.put_back.specs.Back.{counted, back_of, stand, Returned};
 
-use crate::texts::{dropped_after, joined, range};
+use crate::texts::{dropped_after, joined, part};
 use compare::same;
+use listings::Counts;
 use syntax::{Limits, Tag};
 
 // Before each leaf's text the texts of what was dropped there, and likewise behind the last leaf's.
@@ -14,27 +14,49 @@ fn put_back(
     out: &mut [u8],
     text: &[u8],
     tokens: &[u32],
-    tree: &[u32],
-    rows: usize,
-    dropped: &[u32],
-    drops: usize,
+    tree: &[[u32; Limits::TREE_WIDTH]],
+    dropped: &[[u32; Limits::DROPPED_WIDTH]],
 ) -> usize
-    requires { (rows ≤ row_count tree.now) × (drops ≤ length dropped.now / dropped_width) }
-    ensures { let run = counted text.now tokens.now tree.now rows dropped.now drops in
-        Wrote (back_of run) out.old 0 out.new result }
+    ensures { Wrote (put_back (stored text.now tokens.now tree.now dropped.now)) out.old 0 out.new result }
 {
     let mut next = 0;
-    let mut leaves: usize = 0;
-    for row in 0..rows {
-        let from = row * Limits::TREE_WIDTH;
-        if tree[from] != Tag::LEAF {
-            continue;
+    let mut leaves = 0;
+    for row in tree {
+        let [tag, _, start, size, _] = *row;
+        if tag == Tag::Leaf.number() {
+            let behind_dropped = dropped_after(out, next, text, tokens, dropped, leaves);
+            next = part(out, behind_dropped, text, start, size);
+            leaves += 1;
         }
-        let behind_dropped = dropped_after(out, next, text, tokens, dropped, drops, leaves);
-        next = range(out, behind_dropped, text, tree, from + 2);
-        leaves = leaves + 1;
     }
-    dropped_after(out, next, text, tokens, dropped, drops, leaves)
+    dropped_after(out, next, text, tokens, dropped, leaves)
+}
+
+// So many rows of a table, if it has them.
+fn first_rows<const WIDTH: usize>(table: &[u32], count: usize) -> Option<&[[u32; WIDTH]]>
+    requires { 0 < WIDTH }
+    ensures { MatchOption result (length table.entry.now / WIDTH < count)
+        (λ rows. (count ≤ length table.entry.now / WIDTH) × (rows.now ≡ rows_of WIDTH count table.entry.now)) }
+{
+    let (rows, _) = table.as_chunks::<WIDTH>();
+    rows.get(..count)
+}
+
+// What is put back of the rows that count, if they stand in the buffers.
+fn counted_back(
+    out: &mut [u8],
+    text: &[u8],
+    tokens: &[u32],
+    tree: &[u32],
+    dropped: &[u32],
+    counts: Counts,
+) -> Option<usize>
+    ensures { let run = counted text.now tokens.now tree.now counts.rows dropped.now counts.dropped in
+        MatchOption result ((stand run ≡ false) × (out.new ≡ out.old)) (λ size. (stand run ≡ true) × Wrote (back_of run) out.old 0 out.new size) }
+{
+    let tree_rows = first_rows::<{ Limits::TREE_WIDTH }>(tree, counts.rows)?;
+    let dropped_rows = first_rows::<{ Limits::DROPPED_WIDTH }>(dropped, counts.dropped)?;
+    Some(put_back(out, text, tokens, tree_rows, dropped_rows))
 }
 
 // Whether the token texts return. No also where the rows are not in the buffers, or the texts have no room in the bytes lent for them.
@@ -42,22 +64,17 @@ pub fn texts_return(
     text: &[u8],
     tokens: &[u32],
     tree: &[u32],
-    rows: usize,
     dropped: &[u32],
-    drops: usize,
+    counts: Counts,
     back: &mut [u8],
     whole: &mut [u8],
 ) -> bool
-    ensures { let run = counted text.now tokens.now tree.now rows dropped.now drops in
+    ensures { let run = counted text.now tokens.now tree.now counts.rows dropped.now counts.dropped in
         Returned run back.old whole.old result back.new whole.new }
 {
-    if tree.len() / Limits::TREE_WIDTH < rows {
+    let Some(size) = counted_back(back, text, tokens, tree, dropped, counts) else {
         return false;
-    }
-    if dropped.len() / Limits::DROPPED_WIDTH < drops {
-        return false;
-    }
-    let size = put_back(back, text, tokens, tree, rows, dropped, drops);
+    };
     let wanted = joined(whole, text, tokens);
     if size != wanted {
         return false;

@@ -1,6 +1,5 @@
 -- When an accepted run gave what is recorded, as the code asks it: number after number, the rows, and what lies behind them. Assumes nothing.
 use Prim.Native.Nat.{ℕ, zero, suc, ◌+◌, ◌*◌, ◌-◌}
-use mathlib.Core.Bool.{true, false}
 use mathlib.Core.List.{List}
 use mathlib.Core.Path.{◌≡◌, sym, ap, ◌∙◌}
 use native.Mathlib.Nat.{sub-zero}
@@ -14,9 +13,10 @@ use Rattle.rules.specs.Run.{Answer, accepted, Ran, over}
 use Rattle.rules.specs.Sheet.{number_at}
 use Rattle.rules.proofs.Characters.{either}
 use Rattle.listings.specs.Stands.{ran_of}
-use Rattle.listings.specs.declared.answer.Answer.TheVariants.{Accepted}
+use Rattle.std.specs.Prelude.{Ok}
 use Rattle.compare.specs.Tells.{AllFrom}
 use Rattle.recorded.specs.Compared.{RowsAre}
+use Rattle.recorded.specs.Regular.{tree_regular, dropped_regular}
 use Rattle.recorded.specs.Recorded.{tree_form, dropped_form, rows_at, rows_end, before, Agrees}
 use Rattle.recorded.proofs.Forms.{rows_long}
 
@@ -54,7 +54,7 @@ never e = absurd (omega arith)
 -- ---- an accepted run
 module _ (case : List ℕ) (at : ℕ) (tree dropped : List ℕ) (rows drops : ℕ) where
   abbrev pub Accepts : Type 0
-  Accepts = Agrees case at (ran_of (Accepted rows drops) tree dropped)
+  Accepts = Agrees case at (ran_of (Ok (record { rows = rows; dropped = drops })) tree dropped)
 
   pub record AsAccepted : Type 0 where
     pub none : number_at case at ≡ 0
@@ -76,10 +76,10 @@ module _ (case : List ℕ) (at : ℕ) (tree dropped : List ℕ) (rows drops : �
   others = rows_at dropped_form case next drops
 
   trees_long : length trees ≡ rows * tree_width
-  trees_long = rows_long true case (at + 12) rows
+  trees_long = rows_long tree_regular case (at + 12) rows
 
   others_long : length others ≡ drops * dropped_width
-  others_long = rows_long false case next drops
+  others_long = rows_long dropped_regular case next drops
 
   pub agrees_accepted : AsAccepted → Accepts
   agrees_accepted k =

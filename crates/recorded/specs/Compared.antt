@@ -1,14 +1,12 @@
 -- What the answers of the comparisons stand for.
-use Rattle.std.specs.Prelude.{ℕ, ◌*◌, List, ◌≡◌, take}
+use Rattle.std.specs.Prelude.{ℕ, ◌*◌, List, ◌≡◌, take, Option, Some, None}
 use Rattle.rules.specs.Tables.{part}
 use Rattle.recorded.specs.Recorded.{Form, rows_at}
-use Rattle.recorded.specs.declared.rows.Compared.{Compared}
-use Rattle.recorded.specs.declared.rows.Compared.TheVariants.{Same, Differs}
 
--- the same, with the place where the bytes go on, exactly where something holds
-pub record Compares (end : ℕ) (P : Type 0) (r : Compared) : Type 0 where
-  pub same : (next : ℕ) → r ≡ Same next → (next ≡ end) × P
-  pub differs : r ≡ Differs → P → ⊥
+-- the place where the bytes go on, exactly where something holds
+pub record Compares (end : ℕ) (P : Type 0) (r : Option ℕ) : Type 0 where
+  pub same : (next : ℕ) → r ≡ Some next → (next ≡ end) × P
+  pub differs : r ≡ None → P → ⊥
 
 -- the numbers of one row of a buffer are those that are recorded at a place
 abbrev pub RowIs : Form → List ℕ → ℕ → List ℕ → ℕ → Type 0

@@ -1,3 +1,4 @@
--- What the bytes of a recorded case say, and what the answers of the comparisons stand for.
+-- What the bytes of a recorded case say, how its rows are recorded, and what the answers of the comparisons stand for.
 pub mod Recorded
+pub mod Regular
 pub mod Compared

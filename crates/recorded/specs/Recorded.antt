@@ -1,6 +1,6 @@
 -- What the bytes of a recorded case say (README.md of the data folder of `cases` has the format). A byte past the case's end counts as 0: a case that
 -- is cut short says something else.
-use Rattle.std.specs.Prelude.{ℕ, zero, suc, ◌+◌, ◌*◌, ◌-◌, ◌/◌, ◌%◌, ◌^◌, Bool, true, false, cond, List, [], ◌∷◌, ◌++◌, ◌≡◌, eqb, length, get_or, replicate}
+use Rattle.std.specs.Prelude.{ℕ, zero, suc, ◌+◌, ◌*◌, ◌-◌, ◌/◌, ◌%◌, ◌^◌, Bool, cond, List, [], ◌∷◌, ◌++◌, ◌≡◌, eqb, length, get_or, replicate}
 use Rattle.rules.specs.Flat.{tag_leaf}
 use Rattle.rules.specs.Limits.{tree_width, dropped_width}
 use Rattle.rules.specs.Run.{accepted, refused_at, Ran, over}
@@ -48,11 +48,6 @@ dropped_form =
       row = λ case at. short_at case at ∷ get_or case (at + 2) 0 ∷ number_at case (at + 3) ∷ [];
       bytes = λ case at. 7;
     }
-
--- rows of the tree, or else of what was dropped
-abbrev pub form_of : Bool → Form
-form_of true = tree_form
-form_of false = dropped_form
 
 -- so many rows, one behind the other, from a place on; and where their bytes end
 unfoldable pub rows_at : Form → List ℕ → ℕ → ℕ → List ℕ

@@ -1,3 +1,2 @@
--- What the proofs of several functions use, and what the contracts fix.
-pub mod Fronts
+-- What the contracts fix.
 pub mod Only

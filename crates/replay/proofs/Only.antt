@@ -1,6 +1,6 @@
 -- A contract fixes the result: two results that meet it are equal, of a replay all three answers. Assumes nothing.
 use mathlib.Core.List.{List}
-use mathlib.Core.Option.{Option, none, some}
+use Rattle.std.specs.Prelude.{Option, Some, None}
 use mathlib.Core.Path.{◌≡◌, sym, ◌∙◌}
 use Prim.Native.Nat.{ℕ}
 use Rattle.rules.specs.Checks.{Tables}
@@ -12,8 +12,8 @@ use Rattle.replay.proofs.case.replay.Reads as replay
 use Rattle.replay.proofs.tally.Tally.with.Reads as with
 
 only_on : (case : List ℕ) (t : Option Tables) (r s : Replayed) → ReplaysOn case t r → ReplaysOn case t s → r ≡ s
-only_on case none r s e f = e ∙ sym f
-only_on case (some t) r s k l =
+only_on case None r s e f = e ∙ sym f
+only_on case (Some t) r s k l =
     rw (only _ _ k.agrees l.agrees, k.accepted ∙ sym l.accepted, only _ _ k.returns l.returns)
 
 pub only_replay : Only replay.Post

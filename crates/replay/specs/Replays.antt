@@ -1,6 +1,6 @@
 -- What a replay says of a recorded case.
 use Rattle.std.specs.Prelude.{ℕ, ◌*◌, Bool, true, false, cond, ◌&&◌, List, ◌≡◌, leb, length, replicate}
-use Rattle.std.proofs.Math.Option.{Option, none, some}
+use Rattle.std.specs.Prelude.{Option, Some, None}
 use Rattle.rules.specs.Checks.{Tables}
 use Rattle.rules.specs.Limits.{dropped_width}
 use Rattle.rules.specs.Run.{Answer, accepted, refused_at, Ran, run}
@@ -35,7 +35,7 @@ most_room = 16384
 
 -- the tables of a case, if it can be replayed: its sheet is all there and is read, and no larger buffer is asked for
 abbrev pub tables_in : List ℕ → Option Tables
-tables_in case = cond (leb (sheet_end case) (length case) && leb (room_of case) most_room) (read (sheet_of case)) none
+tables_in case = cond (leb (sheet_end case) (length case) && leb (room_of case) most_room) (read (sheet_of case)) None
 
 -- "A replay lends a tree buffer of `room` numbers, five a row, and a dropped buffer of 3 numbers a token."
 abbrev pub tree_before : List ℕ → List ℕ
@@ -49,8 +49,8 @@ abbrev pub not_replayed : Replayed
 not_replayed = record { agrees = false; accepted = false; returns = false }
 
 abbrev pub ReplaysOn : List ℕ → Option Tables → Replayed → Type 0
-ReplaysOn case none r = r ≡ not_replayed
-ReplaysOn case (some t) r = Judges case (answer_at case) t.text t.tokens (run t (tree_before case) (dropped_before t.tokens)) r
+ReplaysOn case None r = r ≡ not_replayed
+ReplaysOn case (Some t) r = Judges case (answer_at case) t.text t.tokens (run t (tree_before case) (dropped_before t.tokens)) r
 
 pub record Replays (case : List ℕ) (r : Replayed) : Type 0 where
   pub on : ReplaysOn case (tables_in case) r

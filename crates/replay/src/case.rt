@@ -1,9 +1,9 @@
 // One recorded case (README.md of the data folder of `cases` has the format): the run on its tables, beside the real parser's answer.
 ghost use Rattle.std.specs.Prelude.{◌^◌, ◌≤◌, ◌<◌, length};
-ghost use Rattle.rules.specs.Checks.{Tables};
 ghost use Rattle.rules.specs.Run.{run as run_of};
 ghost use Rattle.rules.specs.Sheet.{tables_of};
 ghost use Rattle.rules.specs.Treelist.{most_numbers};
+ghost use Rattle.syntax.specs.Tables.{given};
 ghost use Rattle.sheets.proofs.Answers.{Told};
 ghost use Rattle.listings.specs.Stands.{ran_of};
 ghost use Rattle.replay.specs.Replays.{Judges, Replays, dropped_before};
@@ -12,15 +12,15 @@ use cartglaze::run;
 use listings::Answer;
 use put_back::texts_return;
 use recorded::{BEFORE, is_recorded};
-use sheets::{Sections, Sheet, number, read};
-use syntax::Limits;
+use sheets::{Sections, number, read};
+use syntax::{Limits, Tables};
 
 // What a replay says of a case.
 #[derive(Clone, Copy)]
 pub struct Replayed {
     // Whether the run gave the answer that is recorded.
     pub agrees: bool,
-    // Whether the run accepted, and whether then the token texts return.
+    // Whether the run accepted, and whether then the token texts return: two fields and no Option, since `Judges` and `only_replay` speak of each.
     pub accepted: bool,
     pub returns: bool,
 }
@@ -44,20 +44,20 @@ impl Replayed {
 fn judged(
     case: &[u8],
     at: usize,
-    text: &[u8],
-    tokens: &[u32],
+    tables: &Tables<'_>,
     tree: &[u32],
     dropped: &[u32],
     answer: Answer,
 ) -> Replayed
     requires { at < 2 ^ 36 }
-    ensures { let ran = ran_of answer tree.now dropped.now in
-        Judges case.now at text.now tokens.now ran result }
+    ensures { let t = given tables.entry in
+        let ran = ran_of answer tree.now dropped.now in
+        Judges case.now at t.text t.tokens ran result }
 {
     let agrees = is_recorded(case, at, tree, dropped, answer);
-    let Answer::Accepted(rows, drops) = answer else {
+    let Ok(counts) = answer else {
         return Replayed {
-            agrees: agrees,
+            agrees,
             accepted: false,
             returns: false,
         };
@@ -65,38 +65,34 @@ fn judged(
     let mut back = [0u8; Replayed::TEXTS];
     let mut whole = [0u8; Replayed::TEXTS];
     Replayed {
-        agrees: agrees,
+        agrees,
         accepted: true,
         returns: texts_return(
-            text, tokens, tree, rows, dropped, drops, &mut back, &mut whole,
+            tables.text,
+            tables.tokens,
+            tree,
+            dropped,
+            counts,
+            &mut back,
+            &mut whole,
         ),
     }
 }
 
 // The run on these tables, with a dropped buffer of a row for each token.
-fn run_tables(
-    case: &[u8],
-    at: usize,
-    text: &[u8],
-    tokens: &[u32],
-    shapes: &[u32],
-    states: &[u32],
-    tree: &mut [u32],
-) -> Replayed
-    requires { (at < 2 ^ 36) × (length tokens.now ≤ most_numbers) }
-    ensures { let text = text.entry.now in
-        let tokens = tokens.entry.now in
-        let t : Tables = record { text = text; tokens = tokens; shapes = shapes.now; states = states.now } in
-        Judges case.now at text tokens (run_of t tree.old (dropped_before tokens)) result }
+fn run_tables(case: &[u8], at: usize, tables: &Tables<'_>, tree: &mut [u32]) -> Replayed
+    requires { (at < 2 ^ 36) × (length (given tables).tokens ≤ most_numbers) }
+    ensures { let t = given tables.entry in
+        Judges case.now at t.text t.tokens (run_of t tree.old (dropped_before t.tokens)) result }
 {
     let mut dropped = [BEFORE; Sections::MOST_NUMBERS];
-    let room = tokens.len() / Limits::TOKEN_WIDTH * Limits::DROPPED_WIDTH;
+    let room = tables.tokens.len() / Limits::TOKEN_WIDTH * Limits::DROPPED_WIDTH;
     let lent = &mut dropped[..room];
-    let answer = run(text, tokens, shapes, states, tree, lent);
-    judged(case, at, text, tokens, tree, lent, answer)
+    let answer = run(tables, tree, lent);
+    judged(case, at, tables, tree, lent, answer)
 }
 
-// The run on a sheet that was read: the parts of it and of its numbers that its sections tell.
+// The run on a sheet that was read: its text is a part of the sheet, and its tables are parts of the numbers.
 fn run_sheet(
     case: &[u8],
     at: usize,
@@ -106,22 +102,11 @@ fn run_sheet(
     tree: &mut [u32],
 ) -> Replayed
     requires { (at < 2 ^ 36) × (length table.now ≤ most_numbers) × Told sheet.now (tables_of sheet.now) sections table.now }
-    ensures { let t : Tables = tables_of sheet.now in
+    ensures { let t = tables_of sheet.entry.now in
         Judges case.now at t.text t.tokens (run_of t tree.old (dropped_before t.tokens)) result }
 {
-    let text = &sheet[Sections::TEXT_BYTES..Sections::TEXT_BYTES + sections.text];
-    let shapes = sections.tokens;
-    let states = shapes + sections.shapes;
-    let end = states + sections.states;
-    run_tables(
-        case,
-        at,
-        text,
-        &table[..shapes],
-        &table[shapes..states],
-        &table[states..end],
-        tree,
-    )
+    let tables = sections.tables(sheet, table).unwrap();
+    run_tables(case, at, &tables, tree)
 }
 
 // A recorded case: its sheet, and behind it the room that the tree had and the answer.
@@ -139,18 +124,10 @@ pub fn replay(case: &[u8]) -> Replayed
     }
     let mut table = [0u32; Sections::MOST_NUMBERS];
     let mut tree = [BEFORE; Replayed::MOST_ROOM];
-    let found = read(sheet, &mut table);
-    match found {
-        Sheet::Read(sections) => run_sheet(
-            case,
-            end + 4,
-            sheet,
-            sections,
-            &table,
-            &mut tree[..room],
-        ),
-        Sheet::Refused => Replayed::NOT,
-        // The numbers of every sheet have room: this does not come.
-        Sheet::NoRoom(_) => Replayed::NOT,
-    }
+    // The numbers of every sheet have room, so that one that is not read is refused.
+    let Ok(sections) = read(sheet, &mut table) else {
+        return Replayed::NOT;
+    };
+    let lent = &mut tree[..room];
+    run_sheet(case, end + 4, sheet, sections, &table, lent)
 }

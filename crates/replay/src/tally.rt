@@ -1,14 +1,8 @@
 // How many cases were replayed, and what came of them.
-ghost use Rattle.std.specs.Prelude.{◌≡◌, cond, ◌≤◌, ◌<◌};
+ghost use Rattle.std.specs.Prelude.{◌≡◌, ◌<◌};
 ghost use Rattle.replay.specs.Tallied.{most_cases, is_lost, tallied, Tallies};
 
 use crate::case::Replayed;
-
-fn one_if(yes: bool) -> u64
-    ensures { (result ≡ cond yes 1 0) × (result ≤ 1) }
-{
-    if yes { 1 } else { 0 }
-}
 
 // Whether a case was accepted and its texts don't return.
 fn is_lost(replayed: Replayed) -> bool
@@ -45,9 +39,9 @@ impl Tally {
     {
         Tally {
             cases: self.cases + 1,
-            differences: self.differences + one_if(!replayed.agrees),
-            accepted: self.accepted + one_if(replayed.accepted),
-            lost: self.lost + one_if(is_lost(replayed)),
+            differences: self.differences + u64::from(!replayed.agrees),
+            accepted: self.accepted + u64::from(replayed.accepted),
+            lost: self.lost + u64::from(is_lost(replayed)),
         }
     }
 }

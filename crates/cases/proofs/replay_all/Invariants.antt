@@ -1,10 +1,7 @@
--- No count passes that of the cases, and the cases that may yet come fall.
-use Rattle.std.proofs.Common.{◌-◌}
-use Rattle.replay.specs.Tallied.{most_cases, Tallies}
+-- Each turn counts a case, and no count passes that of the cases.
+use Rattle.std.proofs.Common.{◌≡◌}
+use Rattle.replay.specs.Tallied.{Tallies}
 use Rattle.cases.proofs.replay_all.Given as goal
 
-abbrev pub invariant-loop-tally : goal.invariant-loop-tally
-invariant-loop-tally g l = Tallies l.tally
-
-abbrev pub decreases-loop-tally : goal.decreases-loop-tally
-decreases-loop-tally g l = most_cases - l.tally.cases
+abbrev pub invariant-loop : goal.invariant-loop
+invariant-loop g l = (l.tally.cases ≡ l.counter) × Tallies l.tally

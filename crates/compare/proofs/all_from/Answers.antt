@@ -1,32 +1,28 @@
--- A number that differs ends the comparison; else one more number is this one.
-use Rattle.std.proofs.Common.{◌≡◌, ℕ, zero, suc, ◌+◌, ◌-◌, ◌≤◌, ◌<◌, false, List, ◌∷◌, ◌++◌, length, get_or, drop, replicate}
-use Rattle.std.proofs.Common.{refl, sym, ap, ◌∙◌, add-one, drop-cons, arith}
-use lib.ListN.{get_or-replicate}
-use lib.Seq.{get_or-drop}
-use Rattle.compare.specs.Tells.{Tells, AllFrom}
+-- All numbers of a list are one number exactly where it is so many times that number.
+use Rattle.std.proofs.Common.{rules, tests, ◌≡◌, ℕ, ◌<◌, Bool, true, false, List, length, get_or, drop, replicate, sym, ap, ◌∙◌, arith, length-drop}
+use mathlib.Core.Bool.{false≢true}
+use Rattle.std.specs.Bool.{MatchBool}
+use Rattle.std.specs.List.{AllWithin, HoldsAt}
+use Rattle.std.proofs.lemmas.List.{ext_get_or, get_or-replicate, length-replicate}
+use Rattle.std.proofs.lemmas.Iterator.{cases_from_all, YieldsList-from_slice}
+use Rattle.std.proofs.lemmas.Iterator.Adapters.{YieldsList-from_skip}
+use Rattle.compare.specs.Tells.{Tells}
 use Rattle.compare.proofs.Telling.{fails}
 use Rattle.compare.proofs.all_from.Goals as goal
 
-replicate_next : (n value : ℕ) (rest : List ℕ) → replicate n value ++ (value ∷ rest) ≡ replicate (suc n) value ++ rest
-replicate_next zero value rest = refl
-replicate_next (suc n) value rest = ap (λ (l : List ℕ). value ∷ l) (replicate_next n value rest)
+told : (value : ℕ) (xs : List ℕ) (r : Bool)
+    → MatchBool r (AllWithin (λ n. n ≡ value) xs 0 (length xs)) ((k : ℕ) × (k < length xs) × HoldsAt (λ n. n ≡ value → ⊥) xs k)
+    → Tells (xs ≡ replicate (length xs) value) r
+told value xs true all = record {
+  yes = λ _. ext_get_or 0 xs _ (sym (length-replicate _ _)) (λ i inside. all i 0 (omega arith) inside ∙ sym (get_or-replicate _ i value 0 inside));
+  no = λ e _. absurd (false≢true (sym e));
+}
+told value xs false (k, inside, other) =
+    fails (λ e. other 0 (ap (λ (l : List ℕ). get_or l k 0) e ∙ get_or-replicate (length xs) k value 0 inside))
 
-module _ (buffer : List ℕ) (from value i : ℕ) (behind : from ≤ i) (there : i < length buffer) where
-  goes_on : drop from buffer ≡ replicate (i - from) value ++ drop i buffer → get_or buffer i 0 ≡ value
-      → drop from buffer ≡ replicate (i + 1 - from) value ++ drop (i + 1) buffer
-  goes_on before same =
-      let more : i + 1 - from ≡ suc (i - from) = omega arith in
-      before ∙ rw (more, drop-cons buffer i 0 there, same, add-one i) (replicate_next (i - from) value _)
-
-  differs : (get_or buffer i 0 ≡ value → ⊥) → Tells (AllFrom buffer from value) false
-  differs other =
-      let here : from + (i - from) ≡ i = omega arith in
-      let inside : i - from < length buffer - from = omega arith in
-      let one : get_or (drop from buffer) (i - from) 0 ≡ get_or buffer i 0 = rw here at (get_or-drop from buffer (i - from) 0) in
-      fails (λ e. other (sym one ∙ ap (λ (l : List ℕ). get_or l (i - from) 0) e ∙ get_or-replicate (length buffer - from) (i - from) value 0 inside))
-
-pub returns-then-buffer-i : goal.returns-then-buffer-i
-returns-then-buffer-i c = differs _ _ _ c.loop-i.i (omega arith) (omega arith) (λ e. omega arith)
-
-pub loop-i-preserved : goal.loop-i-preserved
-loop-i-preserved c = record { behind = omega arith; same = search goes_on }
+pub returns : goal.returns
+returns c =
+    let numbers = drop c.args.from c.args.buffer.now in
+    let cases = cases_from_all _ _ _ (λ n. n ≡ c.args.value) (λ n. n ≡ c.args.value → ⊥) c.all.ensures.ran
+    (YieldsList-from_skip _ (YieldsList-from_slice c.args.buffer.now cc) cc) (λ x q k. search (rules, tests)) (λ x q k. search (rules, tests)) in
+    rw length-drop at (told c.args.value numbers _ cases)

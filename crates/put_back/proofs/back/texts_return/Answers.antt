@@ -1,6 +1,7 @@
 -- Where both texts are written whole, they are the same exactly where their bytes are; where they are the same and have room, no test fails.
-use Rattle.std.proofs.Common.{◌≡◌, ℕ, ◌/◌, ◌*◌, ◌^◌, ◌≤◌, ◌<◌, Bool, true, List, length, take, sym, ap, ◌∙◌, arith, rules}
-use borrow.Author.Tests.{le-leb}
+use Rattle.std.proofs.Common.{◌≡◌, ℕ, ◌/◌, ◌*◌, ◌^◌, ◌≤◌, ◌<◌, Bool, true, false, ◌&&◌, List, length, take, refl, sym, ap, ◌∙◌, arith, rules}
+use borrow.Author.Tests.{leb-true}
+use lib.Dec.{leb}
 use lib.Seq.{length-sets}
 use Rattle.rules.specs.Limits.{dropped_width}
 use Rattle.rules.specs.Questions.{row_count}
@@ -11,12 +12,16 @@ use Rattle.compare.proofs.Telling.{tells_as}
 use Rattle.put_back.proofs.TextsLeft.{written, texts_same}
 use Rattle.put_back.proofs.back.texts_return.Goals as goal
 
+both : (a b : Bool) → (a && b) ≡ true → (a ≡ true) × (b ≡ true)
+both true true h = (refl, refl)
+both true false h = cc
+both false b h = cc
+
 module _ (text tokens tree : List ℕ) (rows : ℕ) (dropped : List ℕ) (drops : ℕ) (back whole : List ℕ) where
   abbrev run : Counted
   run = counted text tokens tree rows dropped drops
 
-  module _ (rows_stand : rows ≤ row_count tree) (drops_stand : drops ≤ length dropped / dropped_width)
-      {size wanted : ℕ} {back' whole' : List ℕ}
+  module _ (stands : stand run ≡ true) {size wanted : ℕ} {back' whole' : List ℕ}
       (puts : Wrote (back_of run) back 0 back' size) (joins : Wrote (texts_of run) whole 0 whole' wanted)
       (sizes : size ≡ wanted) (room : size ≤ length back') (space : size ≤ length whole')
       (few : length back * 1 < 2 ^ 63) (less : length whole * 1 < 2 ^ 63) where
@@ -32,9 +37,10 @@ module _ (text tokens tree : List ℕ) (rows : ℕ) (dropped : List ℕ) (drops 
     returned : take size back' ≡ take size whole' → Returns run (length back) (length whole)
     returned same =
         let text_size = long in
+        let each = both (leb rows (row_count tree)) (leb drops (length dropped / dropped_width)) stands in
         record {
-          rows = rows_stand;
-          drops = drops_stand;
+          rows = leb-true _ _ each.0;
+          drops = leb-true _ _ each.1;
           same = texts_same puts joins sizes (omega arith) (omega arith) room space same;
           back_room = omega (arith, back_kept);
           whole_room = omega (arith, whole_kept);
@@ -47,7 +53,6 @@ module _ (text tokens tree : List ℕ) (rows : ℕ) (dropped : List ℕ) (drops 
 
     compared : {r : Bool} → Tells (take size back' ≡ take size whole') r → Returned run back whole r back' whole'
     compared t =
-        let stands : stand run ≡ true = rw (le-leb _ _ rows_stand, le-leb _ _ drops_stand) in
         record { answer = tells_as returned same_bytes t; back_after = puts.is ∙ rw stands; whole-after = joins.is ∙ rw stands }
 
 pub returns : goal.returns
