@@ -114,7 +114,8 @@ module _ (t : Tables) (tree tree' dropped dropped' : List ℕ) where
         read-accepted _ _ (rules.accepted_with_more (length tree) (length tree') larger (source_of t)) all_read e
 
     -- the room is no part of what refusals 1 to 4 judge
-    after-refused : {number place : ℕ} (o : Option Refusal) → (number ≡ no_room → ⊥) → (after_checks o t tree dropped).answer ≡ refused_at number place
+    after-refused : {number place : ℕ} (o : Option Refusal) → (number ≡ no_room → ⊥)
+        → (after_checks o t tree dropped).answer ≡ refused_at number place
         → (after_checks o t tree' dropped').answer ≡ refused_at number place
     after-refused none other e = read-refused _ _ (rules.refused-with_more (length tree) (length tree') larger (source_of t) _ _ other) e
     after-refused (some refusal) other e = e
