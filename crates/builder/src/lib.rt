@@ -7,7 +7,6 @@ ghost use Rattle.std.specs.Prelude.{◌≡◌, ◌^◌, ◌<◌, [], Ok};
 ghost use Rattle.rules.specs.Flat as flat;
 ghost use Rattle.builder.specs.Stands.{rows_of, mark_of, frame_of};
 ghost use Rattle.builder.specs.Contract.{Fits, Within, Inside, Goes, StartRow, Allowed};
-ghost use Rattle.syntax.specs.SyntaxKind.{number_of};
 
 mod dropped;
 mod rows;
@@ -81,12 +80,12 @@ impl GreenNodeBuilder {
         tree: &mut [u32],
         place: u32,
         token: u32,
-        kind: SyntaxKind,
+        kind: u32,
         start: u32,
         size: u32,
     ) -> Result<GreenNodeBuilder, Refused>
         requires { Fits self tree.old }
-        ensures { Goes (λ n. flat.leaf n place (record { token = token; kind = number_of kind; start = start; size = size })) self tree result }
+        ensures { Goes (λ n. flat.leaf n place (record { token = token; kind = kind; start = start; size = size })) self tree result }
     {
         let rows = self.rows;
         if tree.len() / Limits::TREE_WIDTH <= rows {
@@ -108,10 +107,10 @@ impl GreenNodeBuilder {
         self,
         tree: &mut [u32],
         place: u32,
-        kind: SyntaxKind,
+        kind: u32,
     ) -> Result<GreenNodeBuilder, Refused>
         requires { Fits self tree.old }
-        ensures { Goes (λ n. flat.start n place (number_of kind)) self tree result }
+        ensures { Goes (λ n. flat.start n place kind) self tree result }
     {
         if Limits::NODES <= self.depth {
             return Err(Refusal::TooManyOpen.at(place as usize));
@@ -136,11 +135,11 @@ impl GreenNodeBuilder {
         self,
         tree: &mut [u32],
         place: u32,
-        kind: SyntaxKind,
+        kind: u32,
         parent: Frame,
     ) -> Result<GreenNodeBuilder, Refused>
         requires { Fits self tree.old × Within self }
-        ensures { Goes (λ n. flat.finish n place (number_of kind) (frame_of parent)) self tree result }
+        ensures { Goes (λ n. flat.finish n place kind (frame_of parent)) self tree result }
     {
         let rows = self.rows;
         if tree.len() / Limits::TREE_WIDTH <= rows {
@@ -170,21 +169,15 @@ impl GreenNodeBuilder {
     }
 
     // A wrap that nothing refuses. The rows from its mark on are lent on and move down once, by two rows, since both nodes begin there.
-    fn enclose(
-        self,
-        tree: &mut [u32],
-        place: u32,
-        kind: SyntaxKind,
-        at: Checkpoint,
-    ) -> GreenNodeBuilder
+    fn enclose(self, tree: &mut [u32], place: u32, kind: u32, at: Checkpoint) -> GreenNodeBuilder
         requires { Within self × Inside at self × Allowed self tree.old at }
-        ensures { Goes (λ n. flat.wrap n place (number_of kind) (mark_of at)) self tree (Ok result) }
+        ensures { Goes (λ n. flat.wrap n place kind (mark_of at)) self tree (Ok result) }
     {
         let start = self.start_row(at);
         let last = self.rows + 2;
         let from = start * Limits::TREE_WIDTH;
         let to = last * Limits::TREE_WIDTH;
-        let argument = SyntaxKind::ClauseArgument;
+        let argument = SyntaxKind::ClauseArgument as u32;
         insert_starts(&mut tree[from..to], kind, argument, place);
         put(tree, last, Tag::Finish, argument, 0, 0, place);
         GreenNodeBuilder {
@@ -203,11 +196,11 @@ impl GreenNodeBuilder {
         self,
         tree: &mut [u32],
         place: u32,
-        kind: SyntaxKind,
+        kind: u32,
         at: Checkpoint,
     ) -> Result<GreenNodeBuilder, Refused>
         requires { Fits self tree.old × Within self × Inside at self }
-        ensures { Goes (λ n. flat.wrap n place (number_of kind) (mark_of at)) self tree result }
+        ensures { Goes (λ n. flat.wrap n place kind (mark_of at)) self tree result }
     {
         if at.children < self.first {
             return Err(Refusal::MarkBeforeNode.at(place as usize));

@@ -17,7 +17,7 @@ pub fn begin_argument(tree: &mut [u32], dropped: &mut [u32], p: Parser) -> Resul
     ensures { Begins (λ s n. spec.argument_begins (flat n) s) p (lent tree.entry dropped.entry) result (lent tree.exit dropped.exit) }
 {
     let ignored = ignore_holding_trivia(dropped, p);
-    ignored.start_node(tree, SyntaxKind::ClauseArgument)
+    ignored.start_node(tree, SyntaxKind::ClauseArgument as u32)
 }
 
 // The node ends, and nothing is held behind it.
@@ -25,7 +25,7 @@ pub fn end_argument(tree: &mut [u32], p: Parser, parent: Frame) -> Result<Parser
     requires { Fits p.builder tree.old × Within p.builder }
     ensures { (s : Source) → Finishes tree p parent result (λ n. spec.argument_ends (flat n) s (shown.frame_of parent)) }
 {
-    let closed = p.finish_node(tree, SyntaxKind::ClauseArgument, parent)?;
+    let closed = p.finish_node(tree, SyntaxKind::ClauseArgument as u32, parent)?;
     Ok(closed.holding_none())
 }
 

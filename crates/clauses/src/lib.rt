@@ -6,7 +6,6 @@ mod argument;
 ghost use Rattle.std.specs.Prelude.{◌≡◌};
 ghost use Rattle.rules.specs.Flat.{flat};
 ghost use Rattle.rules.specs.Position.{Source};
-ghost use Rattle.syntax.specs.SyntaxKind.{number_of};
 ghost use Rattle.rules.specs.Routines as spec;
 ghost use Rattle.builder.specs.Contract.{Fits, Within};
 ghost use Rattle.state.specs.Stands.{kept_of, option_of};
@@ -24,10 +23,10 @@ pub fn text(tokens: &[u32], tree: &mut [u32], p: Parser) -> Result<Parser, Refus
     requires { There tokens p × Somehow (Tokens tokens) p tree.old }
     ensures { Grows (Tokens tokens.entry) tree p result 1 (λ s n. spec.text (flat n) s) }
 {
-    let begun = p.start_node(tree, SyntaxKind::ItemText)?;
+    let begun = p.start_node(tree, SyntaxKind::ItemText as u32)?;
     let first = eat(tokens, tree, begun)?;
     let read = eat_while::<TextComponent>(tokens, tree, first)?;
-    read.finish_node(tree, SyntaxKind::ItemText, p.builder.frame())
+    read.finish_node(tree, SyntaxKind::ItemText as u32, p.builder.frame())
 }
 
 // What `clause_lr` takes as the delimiter.
@@ -39,7 +38,7 @@ fn delimiter(text: &[u8], tokens: &[u32], tree: &mut [u32], p: Parser) -> Result
         return Ok(p);
     };
     if kind == Token::GENERIC {
-        return eat_as(tokens, tree, p, SyntaxKind::TokenCommandSym);
+        return eat_as(tokens, tree, p, SyntaxKind::TokenCommandSym as u32);
     }
     if is_command_name(kind) {
         return Ok(p);
@@ -62,11 +61,11 @@ pub fn clause_lr(
     requires { There tokens p × Somehow (Texts text tokens) p tree.old }
     ensures { Grows (Texts text.entry tokens.entry) tree p result 1 (λ s n. spec.clause_lr (flat n) s) }
 {
-    let begun = p.start_node(tree, SyntaxKind::ClauseLR)?;
+    let begun = p.start_node(tree, SyntaxKind::ClauseLR as u32)?;
     let named = eat(tokens, tree, begun)?;
     let reached = trivia(tokens, tree, named)?;
     let read = delimiter(text, tokens, tree, reached)?;
-    read.finish_node(tree, SyntaxKind::ClauseLR, p.builder.frame())
+    read.finish_node(tree, SyntaxKind::ClauseLR as u32, p.builder.frame())
 }
 
 // The end of an environment, where it is next.
@@ -75,7 +74,7 @@ pub fn end_clause(tokens: &[u32], tree: &mut [u32], p: Parser) -> Result<Parser,
     ensures { Grows (Tokens tokens.entry) tree p result 0 (λ s n. spec.end_clause (flat n) s) }
 {
     if next_is(tokens, p, Token::END_ENVIRONMENT) {
-        return one_in(tokens, tree, p, SyntaxKind::ItemEnd);
+        return one_in(tokens, tree, p, SyntaxKind::ItemEnd as u32);
     }
     Ok(p)
 }
@@ -100,11 +99,11 @@ pub fn right_clause(
 pub fn start_around(
     tree: &mut [u32],
     p: Parser,
-    kind: SyntaxKind,
+    kind: u32,
     at: Option<Checkpoint>,
 ) -> Result<Parser, Refused>
     requires { Fits p.builder tree.old × Within p.builder × MarkOk (kept_of at) p.builder }
-    ensures { (s : Source) → Starts tree p result (λ n. spec.start_around (flat n) s (number_of kind) (option_of at)) }
+    ensures { (s : Source) → Starts tree p result (λ n. spec.start_around (flat n) s kind (option_of at)) }
 {
     let Some(checkpoint) = at else {
         return p.start_node(tree, kind);
@@ -119,7 +118,7 @@ pub fn left1_command(tokens: &[u32], tree: &mut [u32], p: Parser) -> Result<Pars
     ensures { Grows (Tokens tokens.entry) tree p result 1 (λ s n. spec.left1_command (flat n) s) }
 {
     let mark = p.list_last().or(p.list_start());
-    let begun = start_around(tree, p, SyntaxKind::ItemCmd, mark)?;
+    let begun = start_around(tree, p, SyntaxKind::ItemCmd as u32, mark)?;
     let named = eat(tokens, tree, begun)?;
-    named.finish_node(tree, SyntaxKind::ItemCmd, p.builder.frame())
+    named.finish_node(tree, SyntaxKind::ItemCmd as u32, p.builder.frame())
 }

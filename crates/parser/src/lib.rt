@@ -15,7 +15,6 @@ ghost use Rattle.items.specs.Items.{shape_for, piece_for};
 ghost use Rattle.state.specs.Contract.{MarkOk, Ready, Holding};
 ghost use Rattle.state.specs.Stands.{kept_of, option_of};
 ghost use Rattle.syntax.specs.ParseScope.{scope_of};
-ghost use Rattle.syntax.specs.SyntaxKind.{number_of};
 ghost use Rattle.syntax.specs.Tables.{given};
 ghost use Rattle.parser.specs.Member.{lent, Opened, Stayed, Next, NextIf, gain_of, items_of, inside_of, all_arguments};
 
@@ -100,11 +99,11 @@ fn item_group(
     requires { let t = given tables in Ready t p (lent tree dropped) × Next t p }
     ensures { Opened tables tree dropped p result 1 (λ t n inner. spec.item_group (flat n) (source_of t) inner (scope_of scope)) }
 {
-    let begun = p.start_node(tree, group_kind(scope))?;
+    let begun = p.start_node(tree, group_kind(scope).number())?;
     let entered = eat(tables.tokens, tree, begun)?.again();
     let read = inside(tables, tree, dropped, entered, Extent::List(scope))?.again();
     let ended = eat_if(tables.tokens, tree, read, closer(scope))?;
-    ended.finish_node(tree, group_kind(scope), p.builder.frame())
+    ended.finish_node(tree, group_kind(scope).number(), p.builder.frame())
 }
 
 // How an argument is read, inside its node.
@@ -227,12 +226,16 @@ fn greedy_command(
     ensures { Opened tables tree dropped p result 1
         (λ t n inner. spec.greedy_command (flat n) (source_of t) inner (option_of at)) }
 {
-    let begun = start_around(tree, p, SyntaxKind::ItemCmd, at)?;
+    let begun = start_around(tree, p, SyntaxKind::ItemCmd as u32, at)?;
     let named = eat(tables.tokens, tree, begun)?;
-    let entered = named.start_node(tree, SyntaxKind::ClauseArgument)?;
+    let entered = named.start_node(tree, SyntaxKind::ClauseArgument as u32)?;
     let read = inside(tables, tree, dropped, entered, Extent::Greedy)?;
-    let taken = read.finish_node(tree, SyntaxKind::ClauseArgument, named.builder.frame())?;
-    taken.finish_node(tree, SyntaxKind::ItemCmd, p.builder.frame())
+    let taken = read.finish_node(
+        tree,
+        SyntaxKind::ClauseArgument as u32,
+        named.builder.frame(),
+    )?;
+    taken.finish_node(tree, SyntaxKind::ItemCmd as u32, p.builder.frame())
 }
 
 // A name with the arguments that its shape asks for, in a node of a kind; what is left held follows the node.
@@ -243,12 +246,12 @@ fn with_arguments(
     tree: &mut [u32],
     dropped: &mut [u32],
     p: Parser,
-    kind: SyntaxKind,
+    kind: u32,
     shape: Shape,
 ) -> Result<Parser, Refused>
     requires { let t = given tables in Ready t p (lent tree dropped) × Next t p }
     ensures { Opened tables tree dropped p result 1
-        (λ t n inner. spec.with_arguments (flat n) (source_of t) inner (number_of kind) (shape_for shape)) }
+        (λ t n inner. spec.with_arguments (flat n) (source_of t) inner kind (shape_for shape)) }
 {
     let begun = p.start_node(tree, kind)?;
     let named = eat(tables.tokens, tree, begun)?;
@@ -273,7 +276,7 @@ fn command(
         Class::COMMAND,
     );
     if shape.name_only() {
-        return one_in(tables.tokens, tree, p, SyntaxKind::ItemCmd);
+        return one_in(tables.tokens, tree, p, SyntaxKind::ItemCmd as u32);
     }
     if shape.form == Form::LEFT1 {
         return left1_command(tables.tokens, tree, p);
@@ -287,7 +290,7 @@ fn command(
     if matcher.is_greedy() {
         return greedy_command(tables, tree, dropped, p, None);
     }
-    with_arguments(tables, tree, dropped, p, SyntaxKind::ItemCmd, shape)
+    with_arguments(tables, tree, dropped, p, SyntaxKind::ItemCmd as u32, shape)
 }
 
 // An environment: its \begin, its body, its \end.
@@ -302,11 +305,18 @@ fn environment(
     requires { let t = given tables in Ready t p (lent tree dropped) × Next t p }
     ensures { Opened tables tree dropped p result 1 (λ t n inner. spec.environment_item (flat n) (source_of t) inner) }
 {
-    let begun = p.start_node(tree, SyntaxKind::ItemEnv)?;
+    let begun = p.start_node(tree, SyntaxKind::ItemEnv as u32)?;
     let shape = Shape::of_token(tables.tokens, tables.shapes, begun.lexer.token).of_class(
         Class::ENVIRONMENT,
     );
-    let entered = with_arguments(tables, tree, dropped, begun, SyntaxKind::ItemBegin, shape)?;
+    let entered = with_arguments(
+        tables,
+        tree,
+        dropped,
+        begun,
+        SyntaxKind::ItemBegin as u32,
+        shape,
+    )?;
     let read = inside(
         tables,
         tree,
@@ -315,7 +325,7 @@ fn environment(
         Extent::List(ParseScope::Environment),
     )?;
     let ended = end_clause(tables.tokens, tree, read)?;
-    ended.finish_node(tree, SyntaxKind::ItemEnv, p.builder.frame())
+    ended.finish_node(tree, SyntaxKind::ItemEnv as u32, p.builder.frame())
 }
 
 // A body between its delimiters.
@@ -330,11 +340,11 @@ fn item_lr(
     requires { let t = given tables in Ready t p (lent tree dropped) × Next t p }
     ensures { Opened tables tree dropped p result 1 (λ t n inner. spec.item_lr (flat n) (source_of t) inner) }
 {
-    let begun = p.start_node(tree, SyntaxKind::ItemLR)?;
+    let begun = p.start_node(tree, SyntaxKind::ItemLR as u32)?;
     let entered = clause_lr(tables.text, tables.tokens, tree, begun)?;
     let read = inside(tables, tree, dropped, entered, Extent::List(ParseScope::LR))?;
     let ended = right_clause(tables.text, tables.tokens, tree, read)?;
-    ended.finish_node(tree, SyntaxKind::ItemLR, p.builder.frame())
+    ended.finish_node(tree, SyntaxKind::ItemLR as u32, p.builder.frame())
 }
 
 // What follows `_` or `^`. The scope is not asked, so a `}` is a script too.
@@ -383,10 +393,14 @@ fn attach_component(
     if !has_script && last.is_none() {
         return eat(tables.tokens, tree, p);
     }
-    let begun = start_around(tree, p, SyntaxKind::ItemAttachComponent, last)?;
+    let begun = start_around(tree, p, SyntaxKind::ItemAttachComponent as u32, last)?;
     let marked = eat(tables.tokens, tree, begun)?;
     let read = script(tables, tree, dropped, marked, has_script)?;
-    read.finish_node(tree, SyntaxKind::ItemAttachComponent, p.builder.frame())
+    read.finish_node(
+        tree,
+        SyntaxKind::ItemAttachComponent as u32,
+        p.builder.frame(),
+    )
 }
 
 // Any item, whole.
@@ -407,7 +421,7 @@ fn content(
         Item::Error => {
             // Only for speed: see above.
             let copy = p;
-            one_in(tables.tokens, tree, copy, SyntaxKind::TokenError)
+            one_in(tables.tokens, tree, copy, SyntaxKind::TokenError as u32)
         }
         Item::Word | Item::Comma => clauses::text(tables.tokens, tree, p),
         Item::Group(scope) => {
@@ -419,6 +433,6 @@ fn content(
         Item::Command => command(tables, tree, dropped, p),
         Item::Environment => environment(tables, tree, dropped, p),
         Item::LeftRight => item_lr(tables, tree, dropped, p),
-        Item::Skipped(node) => skipped_body(tables.tokens, tree, dropped, p, node),
+        Item::Skipped(node) => skipped_body(tables.tokens, tree, dropped, p, node.number()),
     }
 }

@@ -31,7 +31,7 @@ pub fn parse(tables: &Tables<'_>, tree: &mut [u32], dropped: &mut [u32]) -> Resu
         Parsed t (lent tree.entry dropped.entry) result (lent tree.exit dropped.exit) }
 {
     let p = at_start();
-    let begun = p.start_node(tree, SyntaxKind::ScopeRoot)?;
+    let begun = p.start_node(tree, SyntaxKind::ScopeRoot as u32)?;
     let read = inside(tables, tree, dropped, begun, Extent::List(ParseScope::Root))?;
-    read.finish_node(tree, SyntaxKind::ScopeRoot, p.builder.frame())
+    read.finish_node(tree, SyntaxKind::ScopeRoot as u32, p.builder.frame())
 }

@@ -29,7 +29,7 @@ pub fn ignore_holding_trivia(dropped: &mut [u32], p: Parser) -> Parser
             dropped,
             count,
             token as u32,
-            Reason::Trivia,
+            Reason::Trivia as u32,
             p.builder.leaves as u32,
         );
         count += 1;
@@ -50,7 +50,7 @@ pub fn extract_holding_trivia(
 {
     let mut now = p;
     for token in now.held..p.lexer.token {
-        let kind = SyntaxKind::from_token(cell(tokens, token, Column::KIND));
+        let kind = SyntaxKind::from_token(cell(tokens, token, Column::KIND)).number();
         let start = cell(tokens, token, Column::START);
         let size = cell(tokens, token, Column::LENGTH);
         now = now.leaf_of(tree, token, kind, start, size)?;

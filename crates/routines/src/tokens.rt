@@ -5,7 +5,6 @@ ghost use Rattle.rules.specs.Cursor.{peek};
 ghost use Rattle.rules.specs.Kinds.{is_trivia};
 ghost use Rattle.rules.specs.Position.{asked};
 ghost use Rattle.lexer.specs.Reading.{cursor_of};
-ghost use Rattle.syntax.specs.SyntaxKind.{number_of};
 ghost use Rattle.rules.specs.Routines as spec;
 ghost use Rattle.state.specs.Contract.{AtWord, Grows, LeftOf, Somehow, Texts, There, Tokens, is_word};
 
@@ -15,14 +14,9 @@ use state::Parser;
 use syntax::{Refused, SyntaxKind, Token};
 
 // What is left of the next token becomes a leaf of this kind.
-pub fn eat_as(
-    tokens: &[u32],
-    tree: &mut [u32],
-    p: Parser,
-    kind: SyntaxKind,
-) -> Result<Parser, Refused>
+pub fn eat_as(tokens: &[u32], tree: &mut [u32], p: Parser, kind: u32) -> Result<Parser, Refused>
     requires { There tokens p × Somehow (Tokens tokens) p tree.old }
-    ensures { Grows (Tokens tokens.entry) tree p result 1 (λ s n. spec.eat_as (flat n) s (number_of kind)) }
+    ensures { Grows (Tokens tokens.entry) tree p result 1 (λ s n. spec.eat_as (flat n) s kind) }
 {
     let start = p.lexer.rest_start(tokens);
     let size = p.lexer.rest_length(tokens);
@@ -35,7 +29,7 @@ pub fn eat(tokens: &[u32], tree: &mut [u32], p: Parser) -> Result<Parser, Refuse
     requires { There tokens p × Somehow (Tokens tokens) p tree.old }
     ensures { Grows (Tokens tokens.entry) tree p result 1 (λ s n. spec.eat (flat n) s) }
 {
-    let kind = SyntaxKind::from_token(cell(tokens, p.lexer.token, Column::KIND));
+    let kind = SyntaxKind::from_token(cell(tokens, p.lexer.token, Column::KIND)).number();
     eat_as(tokens, tree, p, kind)
 }
 
@@ -98,7 +92,7 @@ pub fn single_char(
 {
     let size = char_len(word);
     let start = p.lexer.rest_start(tokens);
-    let leafed = p.leaf(tree, SyntaxKind::TokenWord, start, size as u32)?;
+    let leafed = p.leaf(tree, SyntaxKind::TokenWord as u32, start, size as u32)?;
     Ok(leafed.with_lexer(leafed.lexer.consume_utf8_bytes(tokens, size)))
 }
 
@@ -123,14 +117,9 @@ pub fn word_character(
 }
 
 // A node of a kind with one token in it.
-pub fn one_in(
-    tokens: &[u32],
-    tree: &mut [u32],
-    p: Parser,
-    kind: SyntaxKind,
-) -> Result<Parser, Refused>
+pub fn one_in(tokens: &[u32], tree: &mut [u32], p: Parser, kind: u32) -> Result<Parser, Refused>
     requires { There tokens p × Somehow (Tokens tokens) p tree.old }
-    ensures { Grows (Tokens tokens.entry) tree p result 1 (λ s n. spec.one_in (flat n) s (number_of kind)) }
+    ensures { Grows (Tokens tokens.entry) tree p result 1 (λ s n. spec.one_in (flat n) s kind) }
 {
     let begun = p.start_node(tree, kind)?;
     let read = eat(tokens, tree, begun)?;

@@ -7,7 +7,6 @@ ghost use Rattle.rules.specs.Cursor.{peek};
 ghost use Rattle.rules.specs.Position.{asked};
 ghost use Rattle.lexer.specs.Reading.{cursor_of};
 ghost use Rattle.syntax.specs.Rows.{reason_number};
-ghost use Rattle.syntax.specs.SyntaxKind.{number_of};
 ghost use Rattle.rules.specs.Routines as spec;
 ghost use Rattle.state.specs.Contract.{Goes, Known, There, Tokens, lent};
 ghost use Rattle.skipped.specs.Body.{Dropped, RowFree, in_body, nested_behind};
@@ -17,7 +16,7 @@ use items::is_if;
 use lexer::{Column, cell};
 use routines::eat;
 use state::Parser;
-use syntax::{Reason, Refused, SyntaxKind, Token};
+use syntax::{Reason, Refused, Token};
 
 // The next token is dropped.
 fn drop_next(dropped: &mut [u32], p: Parser, reason: Reason) -> Parser
@@ -28,7 +27,7 @@ fn drop_next(dropped: &mut [u32], p: Parser, reason: Reason) -> Parser
         dropped,
         p.dropped,
         p.lexer.token as u32,
-        reason,
+        reason.number(),
         p.builder.leaves as u32,
     );
     let mut next = p.with_lexer(p.lexer.eat());
@@ -87,10 +86,10 @@ pub fn skipped_body(
     tree: &mut [u32],
     dropped: &mut [u32],
     p: Parser,
-    kind: SyntaxKind,
+    kind: u32,
 ) -> Result<Parser, Refused>
     requires { There tokens p × Known (Tokens tokens) p (lent tree dropped) }
-    ensures { Goes (Tokens tokens.entry) tree dropped p result 1 (λ s n. spec.skipped_body (flat n) s (number_of kind)) }
+    ensures { Goes (Tokens tokens.entry) tree dropped p result 1 (λ s n. spec.skipped_body (flat n) s kind) }
 {
     let begun = p.start_node(tree, kind)?;
     let inside = drop_next(dropped, begun, Reason::Opener);

@@ -6,7 +6,6 @@ ghost use Rattle.rules.specs.Flat.{flat};
 ghost use Rattle.rules.specs.Position as spec;
 ghost use Rattle.syntax.specs.ParseScope.{number_of, scope_at, scope_of};
 ghost use Rattle.builder.specs.Stands as shown;
-ghost use Rattle.syntax.specs.SyntaxKind.{number_of as kind_number};
 ghost use Rattle.state.specs.Stands.{mark_at, kept_of, mark_in, list_at};
 ghost use Rattle.state.specs.Change.{rebuilt, relexed, relisted, remarked, unheld};
 ghost use Rattle.builder.specs.Contract.{Fits, Within, Inside};
@@ -14,7 +13,7 @@ ghost use Rattle.state.specs.Contract.{Leafs, Starts, Finishes};
 
 use builder::{Checkpoint, Frame, GreenNodeBuilder};
 use lexer::Lexer;
-use syntax::{ParseScope, Refused, SyntaxKind};
+use syntax::{ParseScope, Refused};
 
 // A mark as the state keeps it, in two numbers: row 0 is the root's own start, where no mark is made, so it says that there is none. It is no
 // `Option<Checkpoint>`, as everywhere else, only for speed: the state goes by value, and with a tag in it the benchmark's binder took 48.5 for 14.6
@@ -234,15 +233,9 @@ impl Parser {
     // ---- the builder's operations, at the place of the first token not wholly read
 
     // A leaf of the next token.
-    pub fn leaf(
-        self,
-        tree: &mut [u32],
-        kind: SyntaxKind,
-        start: u32,
-        size: u32,
-    ) -> Result<Self, Refused>
+    pub fn leaf(self, tree: &mut [u32], kind: u32, start: u32, size: u32) -> Result<Self, Refused>
         requires { Fits self.builder tree.old }
-        ensures { Leafs tree self result (record { token = self.lexer.token; kind = kind_number kind; start = start; size = size }) }
+        ensures { Leafs tree self result (record { token = self.lexer.token; kind = kind; start = start; size = size }) }
     {
         self.leaf_of(tree, self.lexer.token, kind, start, size)
     }
@@ -252,12 +245,12 @@ impl Parser {
         self,
         tree: &mut [u32],
         token: usize,
-        kind: SyntaxKind,
+        kind: u32,
         start: u32,
         size: u32,
     ) -> Result<Self, Refused>
         requires { Fits self.builder tree.old }
-        ensures { Leafs tree self result (record { token = token; kind = kind_number kind; start = start; size = size }) }
+        ensures { Leafs tree self result (record { token = token; kind = kind; start = start; size = size }) }
     {
         let place = number(self.lexer.token);
         let builder = self
@@ -266,9 +259,9 @@ impl Parser {
         Ok(self.with_builder(builder))
     }
 
-    pub fn start_node(self, tree: &mut [u32], kind: SyntaxKind) -> Result<Self, Refused>
+    pub fn start_node(self, tree: &mut [u32], kind: u32) -> Result<Self, Refused>
         requires { Fits self.builder tree.old }
-        ensures { Starts tree self result (λ n. spec.start (flat n) (kind_number kind)) }
+        ensures { Starts tree self result (λ n. spec.start (flat n) kind) }
     {
         let builder = self
             .builder
@@ -276,14 +269,9 @@ impl Parser {
         Ok(self.with_builder(builder))
     }
 
-    pub fn finish_node(
-        self,
-        tree: &mut [u32],
-        kind: SyntaxKind,
-        parent: Frame,
-    ) -> Result<Self, Refused>
+    pub fn finish_node(self, tree: &mut [u32], kind: u32, parent: Frame) -> Result<Self, Refused>
         requires { Fits self.builder tree.old × Within self.builder }
-        ensures { Finishes tree self parent result (λ n. spec.finish (flat n) (kind_number kind) (shown.frame_of parent)) }
+        ensures { Finishes tree self parent result (λ n. spec.finish (flat n) kind (shown.frame_of parent)) }
     {
         let builder = self
             .builder
@@ -291,9 +279,9 @@ impl Parser {
         Ok(self.with_builder(builder))
     }
 
-    pub fn wrap(self, tree: &mut [u32], kind: SyntaxKind, at: Checkpoint) -> Result<Self, Refused>
+    pub fn wrap(self, tree: &mut [u32], kind: u32, at: Checkpoint) -> Result<Self, Refused>
         requires { Fits self.builder tree.old × Within self.builder × Inside at self.builder }
-        ensures { Starts tree self result (λ n. spec.wrap (flat n) (kind_number kind) (shown.mark_of at)) }
+        ensures { Starts tree self result (λ n. spec.wrap (flat n) kind (shown.mark_of at)) }
     {
         let builder = self.builder.wrap(tree, number(self.lexer.token), kind, at)?;
         Ok(self.with_builder(builder))

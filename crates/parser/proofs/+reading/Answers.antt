@@ -48,7 +48,6 @@ use Rattle.items.specs.declared.item.Item.{Item}
 use Rattle.parser.proofs.ListNode.{list_node, node_starts, node_ends, eats}
 use Rattle.parser.proofs.Extents.{inside_stops, inside_closes}
 use Rattle.syntax.specs.ParseScope.{scope_of}
-use Rattle.syntax.specs.SyntaxKind.{number_of}
 use Rattle.rules.specs.Scope.{LR}
 use Rattle.parser.proofs.ItemLoop.{Turned, asks, loop_begins, loop_turned, loop_there, loop_stops, loop_goes_on, loop_less, loop_ends}
 use Rattle.state.proofs.Building.{mark_more}
@@ -612,7 +611,7 @@ content-returns-in-LeftRight t c = content_known (goal.at.content-returns-in-Lef
 pub content-returns-in-Skipped : goal.content-returns-in-Skipped
 unfolding spec.read_item
 content-returns-in-Skipped t c = content_known (goal.at.content-returns-in-Skipped t c).After-item_of c.in-Skipped.is
-    (ran-runs refl c.requires.0 c.skipped_body.ensures)
+    (runs_as (ran-runs refl c.requires.0 c.skipped_body.ensures) (λ n d. rw c.number.ensures))
 
 -- ---- Environment
 -- `environment`: the walk beside its rule, a turn for each call, and each goal by the nearest turn.
@@ -933,7 +932,7 @@ item_group_started : {t : ℕ} (c : goal.item_group-After-start_node t)
     c.args.dropped.now
 unfolding spec.item_group steps line
 item_group_started c =
-    opening (begins c.requires.0 (λ n d. refl)) (starts c.group_kind.ensures c.start_node.ensures)
+    opening (begins c.requires.0 (λ n d. refl)) (starts (c.number.ensures ∙ c.group_kind.ensures) c.start_node.ensures)
     c.start_node.auto.tree refl
 
 item_group_eaten : {t : ℕ} (c : goal.item_group-After-eat t)
@@ -960,7 +959,7 @@ item_group_ended : {t : ℕ} (c : goal.item_group-After-finish_node t)
     → ItemGroupTurned (goal.at.item_group-After-finish_node t c).Start 5 1 0 c.finish_node.result c.finish_node.new.tree c.inside.new.dropped
 item_group_ended {t} c =
     closing c.requires.0 ((item_group_shut (goal.at.item_group-After-finish_node t c).After-eat_if).went c.in_ok-ended.was)
-    (finishes c.group_kind-2.ensures c.frame.ensures c.finish_node.ensures)
+    (finishes (c.number-2.ensures ∙ c.group_kind-2.ensures) c.frame.ensures c.finish_node.ensures)
     c.finish_node.auto.tree refl
 
 pub item_group-returns-in_err-begun : goal.item_group-returns-in_err-begun
@@ -969,7 +968,7 @@ item_group-returns-in_err-begun t c =
 
 pub item_group-eat-requires : goal.item_group-eat-requires
 item_group-eat-requires t c =
-    first_inside refl c.requires.0 c.requires.1 (starts c.group_kind.ensures c.start_node.ensures)
+    first_inside refl c.requires.0 c.requires.1 (starts (c.number.ensures ∙ c.group_kind.ensures) c.start_node.ensures)
     (item_group_started (goal.at.item_group-eat-requires t c).After-start_node) c.in_ok-begun.was
 
 pub item_group-returns-in_err-eat : goal.item_group-returns-in_err-eat
@@ -1442,17 +1441,17 @@ script-returns t c = let other = sym c.word_next-2.ensures ∙ c.if-word_next-2.
 abbrev with_arguments_plan : {t : ℕ} → goal.with_arguments-Start t → List Rule
 with_arguments_plan b =
     let t = given b.args.tables in
-    node_starts (number_of b.args.kind)
+    node_starts b.args.kind
     ∷ eats t
     ∷ (λ n d. spec.arguments_of (flat n) (source_of t) (inner_at t n d) (shape_for b.args.shape))
-    ∷ node_ends (number_of b.args.kind) b.args.p
+    ∷ node_ends b.args.kind b.args.p
     ∷ (λ n d. routine.extract_holding_trivia (flat n) (source_of t))
     ∷ []
 
 abbrev with_arguments_rule : {t : ℕ} → goal.with_arguments-Start t → Rule
 with_arguments_rule b n d =
     let t = given b.args.tables in
-    spec.with_arguments (flat n) (source_of t) (inner_at t n d) (number_of b.args.kind) (shape_for b.args.shape)
+    spec.with_arguments (flat n) (source_of t) (inner_at t n d) b.args.kind (shape_for b.args.shape)
 
 -- how a call ended: so many steps are done if it went
 abbrev WithArgumentsTurned : {t : ℕ} → goal.with_arguments-Start t → ℕ → ℕ → ℕ → Step → List ℕ → List ℕ → Type 0

@@ -7,7 +7,6 @@ use Rattle.rules.specs.Routines as spec
 use Rattle.rules.specs.Tables.{token_count}
 use Rattle.state.specs.Contract.{Tokens, buffers}
 use Rattle.state.specs.Stands.{Step}
-use Rattle.syntax.specs.SyntaxKind.{number_of}
 use Rattle.skipped.proofs.Dropping.{row_free, drops}
 use Rattle.skipped.proofs.Skipping.{skipping}
 use Rattle.state.proofs.Outside.{Both, node_around, node_begins, then_ran, then_ends, still_there, known-somehow, refuses, ready_behind, open_behind, ends_with}
@@ -19,13 +18,13 @@ use Rattle.skipped.proofs.skipped_body.Goals.{Start, In_ok-begun, After-start_no
 -- the rule, as the steps that are left of it
 abbrev plan : Start → Tables → List Rule
 plan b t =
-    node_around (number_of b.args.kind) b.args.p
+    node_around b.args.kind b.args.p
     ((λ n d. spec.drop_next (flat n) (source_of t) reason_opener) ∷ (λ n d. skipping (source_of t) n) ∷ [])
 
 -- how a call ended: so many steps are done if it went
 abbrev Turned : Start → ℕ → ℕ → ℕ → Step → List ℕ → List ℕ → Type 0
 Turned b =
-    Both (Tokens b.args.tokens) (λ s n. spec.skipped_body (flat n) s (number_of b.args.kind)) (plan b) b.args.p
+    Both (Tokens b.args.tokens) (λ s n. spec.skipped_body (flat n) s b.args.kind) (plan b) b.args.p
     (buffers b.args.tree.now b.args.dropped.now)
 
 started : (c : After-start_node)

@@ -5,4 +5,4 @@ use Rattle.routines.proofs.tokens.eat.Goals as goal
 
 pub returns : goal.returns
 unfolding eat
-returns c notes = ran-as (c.eat_as.ensures notes) (λ t seen n. rw (seen, ← c.cell.ensures, ← c.from_token-kind.ensures))
+returns c notes = ran-as (c.eat_as.ensures notes) (λ t seen n. rw (seen, ← c.cell.ensures, ← c.from_token.ensures, ← c.number-kind.ensures))

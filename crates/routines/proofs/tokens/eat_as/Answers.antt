@@ -7,7 +7,6 @@ use Rattle.rules.specs.Cursor.{eaten}
 use Rattle.rules.specs.Flat.{flat}
 use Rattle.rules.specs.Routines.{eat_as}
 use Rattle.lexer.specs.Reading.{cursor_of}
-use Rattle.syntax.specs.SyntaxKind.{number_of}
 use Rattle.state.specs.Contract.{Tokens, buffers}
 use Rattle.state.specs.Stands.{pos_of}
 use Rattle.routines.proofs.Leaves.{small_token, onward_eaten, eat-as_is, leaf-then, leaf-stops, leaf-goes_on, same-lexer}
@@ -16,11 +15,11 @@ use Rattle.routines.proofs.tokens.eat_as.Goals.{After-leaf}
 
 -- the leaf that the code writes
 abbrev leaf : After-leaf → Leaf
-leaf c = record { token = c.args.p.lexer.token; kind = number_of c.args.kind; start = c.rest_start-start.result; size = c.rest_length-size.result }
+leaf c = record { token = c.args.p.lexer.token; kind = c.args.kind; start = c.rest_start-start.result; size = c.rest_length-size.result }
 
 -- is the rule's
 leaf-is : (c : After-leaf) (t : Tables) → Tokens c.args.tokens t → (notes : List ℕ) (n : ℕ)
-    → eat_as (flat n) (source_of t) (number_of c.args.kind) (pos_of c.args.p (buffers c.args.tree.now notes))
+    → eat_as (flat n) (source_of t) c.args.kind (pos_of c.args.p (buffers c.args.tree.now notes))
     ≡ leaf-then (leaf c) eaten n (pos_of c.args.p (buffers c.args.tree.now notes))
 leaf-is c t seen notes =
     eat-as_is t _ c.args.p (buffers c.args.tree.now notes) _ _ _ seen c.rest_start-start.ensures c.rest_length-size.ensures

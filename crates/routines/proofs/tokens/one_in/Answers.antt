@@ -6,7 +6,6 @@ use Rattle.rules.specs.Position.{steps}
 use Rattle.rules.specs.Routines as spec
 use Rattle.state.specs.Contract.{Tokens}
 use Rattle.state.specs.Stands.{Step}
-use Rattle.syntax.specs.SyntaxKind.{number_of}
 use Rattle.state.proofs.Outside.{Alone, node_around, node_begins, then_ran, then_ends, first-inside, refuses, known_alone, open_behind, ends_with}
 use Rattle.state.proofs.Turn.{starts, finishes}
 use Rattle.state.proofs.Walk.{Rule, line}
@@ -15,11 +14,11 @@ use Rattle.routines.proofs.tokens.one_in.Goals.{Start, After-start_node, After-e
 
 -- the rule, as the steps that are left of it
 abbrev plan : Start → Tables → List Rule
-plan b t = node_around (number_of b.args.kind) b.args.p ((λ n d. spec.eat (flat n) (source_of t)) ∷ [])
+plan b t = node_around b.args.kind b.args.p ((λ n d. spec.eat (flat n) (source_of t)) ∷ [])
 
 -- how a call ended: so many steps are done if it went
 abbrev Turned : Start → ℕ → ℕ → ℕ → Step → List ℕ → Type 0
-Turned b = Alone (Tokens b.args.tokens) (λ s n. spec.one_in (flat n) s (number_of b.args.kind)) (plan b) b.args.p b.args.tree.now
+Turned b = Alone (Tokens b.args.tokens) (λ s n. spec.one_in (flat n) s b.args.kind) (plan b) b.args.p b.args.tree.now
 
 started : (c : After-start_node)
     → Turned (goal.at.After-start_node c).Start 1 0 1 c.start_node.result c.start_node.new.tree

@@ -4,13 +4,12 @@ use Rattle.rules.specs.Flat as flat
 use Rattle.rules.specs.Outcome.{Out}
 use Rattle.builder.specs.Stands.{rows_of, frame_of}
 use Rattle.builder.proofs.Facts.{finishes}
-use Rattle.syntax.specs.SyntaxKind.{number_of}
 use Rattle.state.proofs.Building.{few_tokens, for_token, built_told, ended}
 use Rattle.state.proofs.Parser.finish_node.Goals as goal
 
 -- what the rule wants at a place
 abbrev want : goal.After-with_builder → ℕ → ℕ → Out flat.Rows
-want c place n = flat.finish n place (number_of c.args.kind) (frame_of c.args.parent) (rows_of c.args.self.builder c.args.tree.now)
+want c place n = flat.finish n place c.args.kind (frame_of c.args.parent) (rows_of c.args.self.builder c.args.tree.now)
 
 pub returns : goal.returns
 returns c notes =

@@ -5,14 +5,13 @@ use Rattle.rules.specs.Flat as flat
 use Rattle.rules.specs.Outcome.{Out}
 use Rattle.builder.specs.Stands.{rows_of}
 use Rattle.builder.proofs.Facts.{leafs}
-use Rattle.syntax.specs.SyntaxKind.{number_of}
 use Rattle.state.proofs.Building.{for_token, built_told, leafed}
 use Rattle.state.proofs.Parser.leaf_of.Goals as goal
 
 -- what the rule wants at a place, of a leaf of this token
 abbrev want : goal.After-with_builder → ℕ → ℕ → ℕ → Out flat.Rows
 want c place token n =
-    let leaf : Leaf = record { token = token; kind = number_of c.args.kind; start = c.args.start; size = c.args.size } in
+    let leaf : Leaf = record { token = token; kind = c.args.kind; start = c.args.start; size = c.args.size } in
     flat.leaf n place leaf (rows_of c.args.self.builder c.args.tree.now)
 
 pub returns : goal.returns

@@ -4,13 +4,12 @@ use Rattle.rules.specs.Flat as flat
 use Rattle.rules.specs.Outcome.{Out}
 use Rattle.builder.specs.Stands.{rows_of}
 use Rattle.builder.proofs.Facts.{starts}
-use Rattle.syntax.specs.SyntaxKind.{number_of}
 use Rattle.state.proofs.Building.{few_tokens, for_token, built_told, begun}
 use Rattle.state.proofs.Parser.start_node.Goals as goal
 
 -- what the rule wants at a place
 abbrev want : goal.After-with_builder → ℕ → ℕ → Out flat.Rows
-want c place n = flat.start n place (number_of c.args.kind) (rows_of c.args.self.builder c.args.tree.now)
+want c place n = flat.start n place c.args.kind (rows_of c.args.self.builder c.args.tree.now)
 
 pub returns : goal.returns
 returns c notes =

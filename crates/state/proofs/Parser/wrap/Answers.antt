@@ -5,14 +5,13 @@ use Rattle.rules.specs.Outcome.{Out}
 use Rattle.rules.proofs.OnTree.{wrap-rows}
 use Rattle.builder.specs.Stands.{rows_of, mark_of}
 use Rattle.builder.proofs.Facts.{wraps}
-use Rattle.syntax.specs.SyntaxKind.{number_of}
 use Rattle.state.proofs.Walk.{handed}
 use Rattle.state.proofs.Building.{few_tokens, for_token, built_told, built_refused, begun}
 use Rattle.state.proofs.Parser.wrap.Goals as goal
 
 -- what the rule wants at a place
 abbrev want : goal.After-with_builder → ℕ → ℕ → Out flat.Rows
-want c place n = flat.wrap n place (number_of c.args.kind) (mark_of c.args.at) (rows_of c.args.self.builder c.args.tree.now)
+want c place n = flat.wrap n place c.args.kind (mark_of c.args.at) (rows_of c.args.self.builder c.args.tree.now)
 
 pub returns : goal.returns
 returns c notes =
@@ -32,7 +31,7 @@ returns-in_err-builder c notes =
     record {
       told = λ t steady.
           let want : ℕ → ℕ → Out flat.Rows =
-          λ place n. flat.wrap n place (number_of c.args.kind) (mark_of c.args.at) (rows_of c.args.self.builder c.args.tree.now) in
+          λ place n. flat.wrap n place c.args.kind (mark_of c.args.at) (rows_of c.args.self.builder c.args.tree.now) in
           let did = for_token want (few_tokens steady) c.number.ensures c.wrap.ensures in
           rw refusal (built_refused _ _ _ notes _ _ c.in_err-builder.was did.is (wrap-rows _ _ _ _));
     }
