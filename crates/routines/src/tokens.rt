@@ -14,6 +14,7 @@ use state::Parser;
 use syntax::{Refused, SyntaxKind, Token};
 
 // What is left of the next token becomes a leaf of this kind.
+#[inline(always)]
 pub fn eat_as(tokens: &[u32], tree: &mut [u32], p: Parser, kind: u32) -> Result<Parser, Refused>
     requires { There tokens p × Somehow (Tokens tokens) p tree.old }
     ensures { Grows (Tokens tokens.entry) tree p result 1 (λ s n. spec.eat_as (flat n) s kind) }
@@ -117,6 +118,7 @@ pub fn word_character(
 }
 
 // A node of a kind with one token in it.
+#[inline(always)]
 pub fn one_in(tokens: &[u32], tree: &mut [u32], p: Parser, kind: u32) -> Result<Parser, Refused>
     requires { There tokens p × Somehow (Tokens tokens) p tree.old }
     ensures { Grows (Tokens tokens.entry) tree p result 1 (λ s n. spec.one_in (flat n) s kind) }
