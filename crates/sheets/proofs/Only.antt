@@ -3,6 +3,11 @@
 use Prim.Native.Nat.{ℕ, ◌<◌}
 use mathlib.Core.List.{List}
 use mathlib.Core.Path.{◌≡◌, sym, ◌∙◌}
+use Rattle.std.specs.Prelude.{Option}
+use Rattle.std.specs.Option.{option_map}
+use Rattle.rules.specs.Checks as rules
+use Rattle.syntax.specs.Tables.{tables_of}
+use Rattle.syntax.specs.declared.tables.Tables.{Tables}
 use Rattle.sheets.specs.Contract.{Placed, Counted}
 use Rattle.sheets.specs.declared.sections.Places.{Places}
 use Rattle.sheets.specs.declared.sections.Sections.{Sections}
@@ -22,3 +27,8 @@ only_places k l =
 pub only_sections : {sheet : List ℕ} {r s : Sections} → Counted sheet r → Counted sheet s → r ≡ s
 only_sections k l =
     rw (both k.text l.text, both k.tokens l.tokens, both k.shapes l.shapes, both k.states l.states)
+
+-- tables that are lent: what they hold. Where that lies in memory is left open
+pub only_tables : {held : Option rules.Tables} (r s : Option Tables) → option_map tables_of r ≡ held → option_map tables_of s ≡ held
+    → option_map tables_of r ≡ option_map tables_of s
+only_tables r s one other = one ∙ sym other
