@@ -17,7 +17,6 @@ use Rattle.state.specs.declared.Parser.{Parser}
 use Rattle.parser.specs.Member.{buffers}
 use Rattle.parser.specs.Root.{Readable, Written, Parsed}
 use Rattle.listings.specs.Stands.{ran_of}
-use Rattle.listings.specs.declared.answer.Counts.{Counts}
 use Rattle.syntax.specs.declared.refusal.Refused.{Refused}
 
 -- the first numbers of a buffer, with what stood behind them before, are the buffer

@@ -1,5 +1,5 @@
 // The whole run: the tables are checked, the tokens are read, and a refusal while reading leaves nothing in the lent buffers.
-ghost use Rattle.std.specs.Prelude.{◌≡◌};
+ghost use Rattle.std.specs.Prelude.{◌≡◌, length, replicate};
 ghost use Rattle.rules.specs.Run.{run as run_of};
 ghost use Rattle.syntax.specs.Tables.{given};
 ghost use Rattle.listings.specs.Stands.{ran_of};
@@ -8,6 +8,13 @@ use checks::check;
 use listings::{Answer, Counts};
 use parser::parse;
 use syntax::Tables;
+
+// A lent buffer set to zeros throughout.
+fn clear(buffer: &mut [u32])
+    ensures { buffer.new ≡ replicate (length buffer.old) 0 }
+{
+    buffer.fill(0);
+}
 
 // The tables in; the tree's rows and the dropped rows into the lent buffers.
 // Refusals 1 to 4 write nothing, 5 to 8 leave zeros; behind the rows of an accepted run all is as it was.
@@ -21,8 +28,8 @@ pub fn run(tables: &Tables<'_>, tree: &mut [u32], dropped: &mut [u32]) -> Answer
             dropped: end.dropped,
         }),
         Err(refused) => {
-            tree.fill(0);
-            dropped.fill(0);
+            clear(tree);
+            clear(dropped);
             Err(refused)
         }
     }

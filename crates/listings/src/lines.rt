@@ -94,7 +94,7 @@ pub fn dropped_lines(out: &mut [u8], at: usize, dropped: &[u32], count: usize) -
 {
     let (rows, _) = dropped.as_chunks::<{ Limits::DROPPED_WIDTH }>();
     let mut next = at;
-    for row in &rows[..count.min(rows.len())] {
+    for row in &rows[..rows.len().min(count)] {
         next = dropped_line(out, next, row);
     }
     next

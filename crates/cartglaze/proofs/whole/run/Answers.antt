@@ -18,4 +18,4 @@ returns-in-Ok c = accepted _ _ _ c.check.ensures c.in_ok-check.was c.parse.ensur
 pub returns-in-Err : goal.returns-in-Err
 returns-in-Err c =
     refused-while _ _ _ c.check.ensures c.in_ok-check.was c.parse.ensures c.in-Err.is c.parse.auto.tree c.parse.auto.dropped
-    (c.fill.ensures.after (λ y e. e)) (c.fill-in-Err.ensures.after (λ y e. e))
+    c.clear.ensures c.clear-in-Err.ensures
