@@ -13,7 +13,7 @@
  * keep to this.
  *
  * Stack: a run takes more the more nodes are open, and no more than 128 ever are. Formulas with so many were read on a thread with a stack of
- * 220 KiB, and not on one with 4 KiB less; the thread's own start takes a part of it. That is measured, on x86-64, and not proved; `make bench`
+ * 132 KiB, and not on one with 4 KiB less; the thread's own start takes a part of it. That is measured, on x86-64, and not proved; `make bench`
  * measures it again. Nothing is taken from the heap.
  *
  * Tables, all of whole rows:

@@ -2,7 +2,7 @@
 //! Rust's types don't ask.
 //!
 //! A run needs stack, more the more nodes are open, and no more than 128 ever are. Formulas with so many were read on a thread with a stack of
-//! 220 KiB, and not on one with 4 KiB less; the thread's own start takes a part of it. That is measured, on x86-64, and not proved; `make bench`
+//! 132 KiB, and not on one with 4 KiB less; the thread's own start takes a part of it. That is measured, on x86-64, and not proved; `make bench`
 //! measures it again. A thread that Rust makes has 2 MiB unless its builder says another number. Nothing is taken from the heap.
 #![deny(missing_docs)]
 
