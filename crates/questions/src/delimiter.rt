@@ -47,17 +47,30 @@ impl Delimiter {
             Self::EndDisplay => b"\\]",
         }
     }
+
+    // Whether a token is this delimiter.
+    pub fn is(self, text: &[u8], tree: &[u32], token: Option<usize>) -> bool
+        ensures { result ≡ is_delimiter text.now (delimiter_of self) (leaf_at tree.now token) }
+    {
+        is_delimiter(text, tree, token, self.kind().number(), self.bytes())
+    }
 }
 
-// Whether a token lies inside the text, is of the delimiter's kind and has its bytes.
+// Whether a token lies inside the text, is of a kind and has these bytes.
 #[tactic(auto, using(crate::proofs::Delimiters::delimiters), unfolding(rules::specs::Questions::is_delimiter))]
-pub fn is_delimiter(text: &[u8], tree: &[u32], token: Option<usize>, delimiter: Delimiter) -> bool
-    ensures { result ≡ is_delimiter text.now (delimiter_of delimiter) (leaf_at tree.now token) }
+pub fn is_delimiter(
+    text: &[u8],
+    tree: &[u32],
+    token: Option<usize>,
+    kind: u32,
+    bytes: &[u8],
+) -> bool
+    ensures { result ≡ is_delimiter text.now (record { kind = kind; bytes = bytes.now }) (leaf_at tree.now token) }
 {
     let Some(row) = token else {
         return false;
     };
     is_leaf(text, tree, row)
-        && cell(tree, row, Column::Kind) == delimiter.kind().number()
-        && leaf_text(text, tree, row) == delimiter.bytes()
+        && cell(tree, row, Column::Kind as usize) == kind
+        && leaf_text(text, tree, row) == bytes
 }

@@ -3,7 +3,7 @@ ghost use Rattle.std.specs.Prelude.{◌≡◌};
 ghost use Rattle.rules.specs.Questions.{first_token, leaf_at, one_of, is_display, is_inline, is_valid, is_whole};
 ghost use Rattle.questions.specs.Stands.{delimiter_of};
 
-use crate::delimiter::{Delimiter, is_delimiter};
+use crate::delimiter::Delimiter;
 use crate::matched::matched;
 use crate::tokens::{first_token, formula, last_token};
 
@@ -13,7 +13,7 @@ fn opens(text: &[u8], tree: &[u32], row: usize, one: Delimiter, other: Delimiter
     ensures { result ≡ one_of text.now (delimiter_of one) (delimiter_of other) (leaf_at tree.now (first_token tree.now row)) }
 {
     let first = first_token(tree, row);
-    is_delimiter(text, tree, first, one) || is_delimiter(text, tree, first, other)
+    one.is(text, tree, first) || other.is(text, tree, first)
 }
 
 // Checks whether it is a display formula.

@@ -21,8 +21,8 @@ fn range_at(tree: &[u32], row: usize) -> LeafRange
     ensures { (range_of result ≡ range_at tree.now row) × (result.start < 2 ^ 32) × (result.size < 2 ^ 32) }
 {
     LeafRange {
-        start: cell(tree, row, Column::Start) as usize,
-        size: cell(tree, row, Column::Length) as usize,
+        start: cell(tree, row, Column::Start as usize) as usize,
+        size: cell(tree, row, Column::Length as usize) as usize,
     }
 }
 
@@ -31,7 +31,7 @@ fn range_at(tree: &[u32], row: usize) -> LeafRange
 pub fn is_leaf(text: &[u8], tree: &[u32], row: usize) -> bool
     ensures { result ≡ is_leaf text.now tree.now row }
 {
-    if !tagged(Tag::Leaf, tree, row) {
+    if !tagged(Tag::Leaf as u32, tree, row) {
         return false;
     }
     let range = range_at(tree, row);

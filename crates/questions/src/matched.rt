@@ -3,7 +3,7 @@ ghost use Rattle.std.specs.Prelude.{◌≡◌};
 ghost use Rattle.rules.specs.Questions.{leaf_at, between, matched};
 ghost use Rattle.questions.specs.Stands.{delimiter_of};
 
-use crate::delimiter::{Delimiter, is_delimiter};
+use crate::delimiter::Delimiter;
 
 // Whether the one token is this delimiter and the other that one.
 #[tactic(auto, unfolding(rules::specs::Questions::between))]
@@ -17,7 +17,7 @@ fn between(
 ) -> bool
     ensures { result ≡ between text.now (delimiter_of opener) (delimiter_of closer) (leaf_at tree.now first) (leaf_at tree.now last) }
 {
-    is_delimiter(text, tree, first, opener) && is_delimiter(text, tree, last, closer)
+    opener.is(text, tree, first) && closer.is(text, tree, last)
 }
 
 // Whether they are one of the four pairs.

@@ -14,7 +14,7 @@ fn matching_finish(tree: &[u32], row: usize) -> Option<usize>
     let rows = tree.len() / Limits::TREE_WIDTH;
     let mut deep: usize = 1;
     for at in row + 1..rows {
-        let tag = cell(tree, at, Column::Tag);
+        let tag = cell(tree, at, Column::Tag as usize);
         if Tag::Finish.number() < tag {
             return None;
         }
@@ -31,8 +31,8 @@ fn matching_finish(tree: &[u32], row: usize) -> Option<usize>
 pub fn formula(tree: &[u32], row: usize) -> Option<usize>
     ensures { result ≡ formula tree.now row }
 {
-    if tagged(Tag::Start, tree, row)
-        && cell(tree, row, Column::Kind) == SyntaxKind::ItemFormula.number()
+    if tagged(Tag::Start as u32, tree, row)
+        && cell(tree, row, Column::Kind as usize) == SyntaxKind::ItemFormula.number()
     {
         return matching_finish(tree, row);
     }
@@ -46,7 +46,7 @@ fn first_from(tree: &[u32], from: usize, to: usize) -> Option<usize>
     ensures { result ≡ first_from tree.now (to - from) from }
 {
     for at in from..to {
-        let tag = cell(tree, at, Column::Tag);
+        let tag = cell(tree, at, Column::Tag as usize);
         if tag == Tag::Leaf.number() {
             return Some(at);
         }
@@ -64,7 +64,7 @@ fn last_before(tree: &[u32], to: usize) -> Option<usize>
     ensures { result ≡ last_before tree.now to }
 {
     for at in (0..to).rev() {
-        let tag = cell(tree, at, Column::Tag);
+        let tag = cell(tree, at, Column::Tag as usize);
         if tag == Tag::Leaf.number() {
             return Some(at);
         }
