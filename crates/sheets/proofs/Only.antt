@@ -1,14 +1,13 @@
--- The contracts of the functions below `read` fix what they speak of: two results that meet one are equal. Each is an equation with the rule for
--- every field. Assumes nothing.
+-- The contracts of the functions below `read` fix what they speak of: two results that meet one are equal, tables by what they hold. Each is an
+-- equation with the rule, for every field. Assumes nothing.
 use Prim.Native.Nat.{ℕ, ◌<◌}
 use mathlib.Core.List.{List}
 use mathlib.Core.Path.{◌≡◌, sym, ◌∙◌}
 use Rattle.std.specs.Prelude.{Option}
 use Rattle.std.specs.Option.{option_map}
-use Rattle.rules.specs.Checks as rules
 use Rattle.syntax.specs.Tables.{tables_of}
 use Rattle.syntax.specs.declared.tables.Tables.{Tables}
-use Rattle.sheets.specs.Contract.{Placed, Counted}
+use Rattle.sheets.specs.Contract.{Placed, Counted, tables_in}
 use Rattle.sheets.specs.declared.sections.Places.{Places}
 use Rattle.sheets.specs.declared.sections.Sections.{Sections}
 
@@ -28,7 +27,8 @@ pub only_sections : {sheet : List ℕ} {r s : Sections} → Counted sheet r → 
 only_sections k l =
     rw (both k.text l.text, both k.tokens l.tokens, both k.shapes l.shapes, both k.states l.states)
 
--- tables that are lent: what they hold. Where that lies in memory is left open
-pub only_tables : {held : Option rules.Tables} (r s : Option Tables) → option_map tables_of r ≡ held → option_map tables_of s ≡ held
+-- tables that are lent, by what they hold. Where that lies in memory is left open
+pub only_tables : (sections : Sections) (sheet numbers : List ℕ) (r s : Option Tables) → option_map tables_of r ≡ tables_in sections sheet numbers
+    → option_map tables_of s ≡ tables_in sections sheet numbers
     → option_map tables_of r ≡ option_map tables_of s
-only_tables r s one other = one ∙ sym other
+only_tables sections sheet numbers r s one other = one ∙ sym other
