@@ -1,7 +1,7 @@
 // Numbers in buffers compared: whether those of one are those of another.
 #![tactic(auto)]
 
-ghost use Rattle.std.specs.Prelude.{◌≡◌, ◌^◌, ◌≤◌, ◌<◌, length, take};
+ghost use Rattle.std.specs.Prelude.{◌≡◌, ◌^◌, ◌≤◌, ◌<◌, length, replicate, take};
 ghost use Rattle.rules.specs.Tables.{part};
 ghost use Rattle.compare.specs.Tells.{Tells, AllFrom};
 
@@ -20,11 +20,24 @@ pub fn same(one: &[u8], other: &[u8], size: usize) -> bool
     one[..size] == other[..size]
 }
 
+// So many numbers are looked at before one that differs ends the search. One by one they took about half of the time of `cases`.
+const PART: usize = 64;
+
+// Whether all of these numbers are this one. Those behind one that differs are looked at too, so that the compiler compares several in a step.
+fn all_are(numbers: &[u32], value: u32) -> bool
+    ensures { Tells (numbers.now ≡ replicate (length numbers.now) value) result }
+{
+    numbers
+        .iter()
+        .fold(true, |same, &number| same & (number == value))
+}
+
 // Whether all numbers from one on are the same.
 pub fn all_from(buffer: &[u32], from: usize, value: u32) -> bool
     ensures { Tells (AllFrom buffer.now from value) result }
 {
-    buffer.iter().skip(from).all(|&number| number == value)
+    let rest = buffer.get(from..).unwrap_or(&[]);
+    rest.chunks(PART).all(|part| all_are(part, value))
 }
 
 // Whether these numbers stand in the buffer from a place on.
