@@ -7,7 +7,9 @@ use crate::delimiter::Delimiter;
 use crate::matched::matched;
 use crate::tokens::{first_token, formula, last_token};
 
-// Whether the first token is one of two delimiters.
+// Whether the first token is one of two delimiters. In place by word: called, its last parameter lies on the stack, and rows that are no formula take
+// half as much time again.
+#[inline(always)]
 #[tactic(auto, unfolding(rules::specs::Questions::one_of))]
 fn opens(text: &[u8], tree: &[u32], row: usize, one: Delimiter, other: Delimiter) -> bool
     ensures { result ≡ one_of text.now (delimiter_of one) (delimiter_of other) (leaf_at tree.now (first_token tree.now row)) }
