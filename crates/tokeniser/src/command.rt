@@ -19,7 +19,7 @@ fn is_among(names: &[&[u8]], name: &[u8]) -> bool
     names.iter().any(|these| name == *these)
 }
 
-// The kind of a name.
+// The kind of a name. The rules ask for the tests before \begin and \end; here these come first, since a list is longer to look through.
 #[tactic(auto, using(crate::proofs::Spellings::kinds))]
 pub fn kind_of(name: &[u8]) -> u32
     ensures { result ≡ kind_of name.now }
@@ -43,12 +43,12 @@ pub fn kind_of(name: &[u8]) -> u32
         Token::LEFT
     } else if is(b"right") {
         Token::RIGHT
-    } else if is_among(&IFS, name) {
-        Token::IF
     } else if is(b"begin") {
         Token::ERROR_BEGIN_ENVIRONMENT
     } else if is(b"end") {
         Token::ERROR_END_ENVIRONMENT
+    } else if is_among(&IFS, name) {
+        Token::IF
     } else {
         Token::GENERIC
     }
