@@ -1,4 +1,5 @@
--- A name is spelled by some bytes exactly when it is these bytes; and its kind, with the names that begin a test asked for at once. Assumes nothing.
+-- A name is spelled by some bytes exactly when it is these bytes; and its kind, with the names that begin a test asked for at once, and last.
+-- Assumes nothing.
 use Prim.Native.Nat.{ℕ}
 use Prim.Native.String.{String}
 use mathlib.Core.Bool.{Bool, true, false, cond, ◌||◌, true≢false}
@@ -19,7 +20,9 @@ spelled_is [] [] = refl
 spelled_is [] (x ∷ name) = rw (eqb-suc-zero (length name))
 spelled_is (byte ∷ these) [] = refl
 spelled_is (byte ∷ these) (x ∷ name) =
-    either (eqb x byte) (λ t. rw (t, eqb-suc-suc (length name) (length these)) (spelled_is these name)) (λ f. rw f)
+    either (eqb x byte)
+    (λ t. rw (t, eqb-suc-suc (length name) (length these)) (spelled_is these name))
+    (λ f. rw f)
 
 pub either_or : (a b : Bool) (x y : ℕ) → cond (a || b) x y ≡ cond a x (cond b x y)
 either_or true b x y = refl

@@ -21,7 +21,8 @@ behind buffer start from is_from None none empty got =
     empty ∙ sym (nil_from_length (drop from buffer) (omega (arith, length-drop from buffer, got.0, is_from)))
 behind buffer start from is_from (Some x) none empty got =
     let now : x.now ≡ _ = got.0.2 in
-    now ∙ take_all (length buffer - start) (drop start buffer) (omega (arith, length-drop start buffer)) ∙ ap (λ (n : ℕ). drop n buffer) is_from
+    now ∙ take_all (length buffer - start) (drop start buffer) (omega (arith, length-drop start buffer))
+    ∙ ap (λ (n : ℕ). drop n buffer) is_from
 
 -- `all` over the parts, with a closure that tests each number of a part
 module _ {F : Type 0} (g : Mut F (Bor (List ℕ) × Unit {0}) Bool) (test : ℕ → Bool) (f : F)
@@ -37,12 +38,14 @@ module _ {F : Type 0} (g : Mut F (Bor (List ℕ) × Unit {0}) Bool) (test : ℕ 
   abbrev left : Chunks ℕ → Bool
   left s = list_all test (chunks_rest s)
 
-  one_part : (s t : Chunks ℕ) (x : Bor (List ℕ)) (b : Bool) → chunks_steps s (Some x) t → b ≡ list_all test x.now → left s ≡ (b && left t)
+  one_part : (s t : Chunks ℕ) (x : Bor (List ℕ)) (b : Bool) → chunks_steps s (Some x) t → b ≡ list_all test x.now
+      → left s ≡ (b && left t)
   one_part s t x b step e =
       let cut : chunks_rest s ≡ _ = step.1.0 in
       ap (list_all test) cut ∙ list_all-append test x.now (chunks_rest t) ∙ ap (λ (a : Bool). a && left t) (sym e)
 
-  passed : (xs : List (Bor (List ℕ))) (s t : Chunks ℕ) (p : F) → Yields chunks_steps s xs t → FoldsTo Passes f xs p → (p ≡ f) × (left s ≡ left t)
+  passed : (xs : List (Bor (List ℕ))) (s t : Chunks ℕ) (p : F) → Yields chunks_steps s xs t → FoldsTo Passes f xs p
+      → (p ≡ f) × (left s ≡ left t)
   passed [] s t p same stays = (sym stays, ap left same)
   passed (x ∷ xs) s t p (u, step, yields) (q, called, folds) =
       let (unmoved, passes) = tests_part x true q called in
@@ -58,7 +61,8 @@ module _ {F : Type 0} (g : Mut F (Bor (List ℕ) × Unit {0}) Bool) (test : ℕ 
       failed ∙ sym (one_part t u x false step fails)
 
   tests_all : (r : Bool) (s u : Chunks ℕ)
-      → (xs : List (Bor (List ℕ))) × (o : Option (Bor (List ℕ))) × (p : F) × YieldsThen chunks_steps s xs o u × FoldsTo Passes f xs p × Ends r p o
+      → (xs : List (Bor (List ℕ))) × (o : Option (Bor (List ℕ))) × (p : F) × YieldsThen chunks_steps s xs o u
+      × FoldsTo Passes f xs p × Ends r p o
       → r ≡ left s
   tests_all r s u (xs, o, p, (t, yields, step), folds, ends) =
       let (unmoved, rest) = passed xs s t p yields folds in
