@@ -1,5 +1,5 @@
--- A name is spelled by some bytes exactly when it is these bytes; and its kind, with the names that begin a test asked for at once, and last.
--- Assumes nothing.
+-- A name is spelled by some bytes exactly when it is these bytes; and its kind, with the names that begin a test asked for at once: in the rules'
+-- order, and last, as the code asks. Assumes nothing.
 use Prim.Native.Nat.{ℕ}
 use Prim.Native.String.{String}
 use mathlib.Core.Bool.{Bool, true, false, cond, ◌||◌, true≢false}
@@ -30,14 +30,14 @@ either_or false b x y = refl
 
 abbrev ifs : List String
 ifs =
-    "if" ∷ "iftrue" ∷ "ifcase" ∷ "ifnum" ∷ "ifcat" ∷ "ifx" ∷ "ifvoid" ∷ "ifhbox" ∷ "ifvbox" ∷ "ifhmode" ∷ "ifmmode" ∷ "ifvmode" ∷ "ifinner" ∷ "ifdim"
-    ∷ "ifeof" ∷ "ifstar" ∷ []
+    "if" ∷ "iftrue" ∷ "ifcase" ∷ "ifnum" ∷ "ifcat" ∷ "ifx" ∷ "ifvoid" ∷ "ifhbox" ∷ "ifvbox" ∷ "ifhmode"
+    ∷ "ifmmode" ∷ "ifvmode" ∷ "ifinner" ∷ "ifdim" ∷ "ifeof" ∷ "ifstar" ∷ []
 
 abbrev among : List String → List ℕ → Bool
 among [] name = false
 among (these ∷ more) name = spelled (bytes these) name || among more name
 
--- the kind by the bytes: of the names that are asked for first, and of the others in the rules' order and in the code's
+-- the names that both ask for first, and the others, in the rules' order and in the code's
 abbrev before_the_rest : List ℕ → ℕ → ℕ
 before_the_rest name rest =
     cond (spelled (bytes "") name) Token.Error
@@ -62,8 +62,13 @@ in_the_code name =
     (cond (spelled (bytes "end") name) Token.ErrorEndEnvironment
     (cond (among ifs name) Token.If Token.Generic))
 
+-- the kind by the bytes
 abbrev pub by_bytes : List ℕ → ℕ
-by_bytes name = before_the_rest name (in_the_code name)
+by_bytes name = before_the_rest name (in_the_rules name)
+
+pub kind_is : (name : List ℕ) → kind_of name ≡ by_bytes name
+unfolding kind_of
+kind_is name = simp either_or
 
 -- of two tests that never both hold, either may come first
 swap : (a b : Bool) (x y z : ℕ) → (b ≡ true → a ≡ false) → cond a x (cond b y z) ≡ cond b y (cond a x z)
@@ -80,11 +85,8 @@ rest_is name =
     swap _ _ _ _ _ (no_test (bytes "begin") name refl)
     ∙ ap (λ (n : ℕ). cond (spelled (bytes "begin") name) Token.ErrorBeginEnvironment n) (swap _ _ _ _ _ (no_test (bytes "end") name refl))
 
-in_turn : (name : List ℕ) → kind_of name ≡ before_the_rest name (in_the_rules name)
-unfolding kind_of
-in_turn name = simp either_or
+-- and as the code asks
+pub kind_in_code : (name : List ℕ) → kind_of name ≡ before_the_rest name (in_the_code name)
+kind_in_code name = kind_is name ∙ ap (before_the_rest name) (rest_is name)
 
-pub kind_is : (name : List ℕ) → kind_of name ≡ by_bytes name
-kind_is name = in_turn name ∙ ap (before_the_rest name) (rest_is name)
-
-pub ruleset kinds = (kind_is, spelled_is)
+pub ruleset kinds = (kind_in_code, spelled_is)
