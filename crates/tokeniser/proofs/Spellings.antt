@@ -1,5 +1,5 @@
--- A name is spelled by some bytes exactly when it is these bytes; and its kind, with the names that begin a test asked for at once: in the rules'
--- order, and last, as the code asks. Assumes nothing.
+-- A name is spelled by some bytes exactly when it is these bytes; and its kind by its bytes, with the names that begin a test asked for at once: in
+-- the rules' order, and in the code's, where they come last. Assumes nothing.
 use Prim.Native.Nat.{ℕ}
 use Prim.Native.String.{String}
 use mathlib.Core.Bool.{Bool, true, false, cond, ◌||◌, true≢false}
@@ -37,7 +37,7 @@ abbrev among : List String → List ℕ → Bool
 among [] name = false
 among (these ∷ more) name = spelled (bytes these) name || among more name
 
--- the names that both ask for first, and the others, in the rules' order and in the code's
+-- the names that the rules and the code both ask for first; then the others, in the rules' order and in the code's
 abbrev before_the_rest : List ℕ → ℕ → ℕ
 before_the_rest name rest =
     cond (spelled (bytes "") name) Token.Error
@@ -62,7 +62,7 @@ in_the_code name =
     (cond (spelled (bytes "end") name) Token.ErrorEndEnvironment
     (cond (among ifs name) Token.If Token.Generic))
 
--- the kind by the bytes
+-- the kind by the bytes, in the rules' order
 abbrev pub by_bytes : List ℕ → ℕ
 by_bytes name = before_the_rest name (in_the_rules name)
 
@@ -85,8 +85,11 @@ rest_is name =
     swap _ _ _ _ _ (no_test (bytes "begin") name refl)
     ∙ ap (λ (n : ℕ). cond (spelled (bytes "begin") name) Token.ErrorBeginEnvironment n) (swap _ _ _ _ _ (no_test (bytes "end") name refl))
 
--- and as the code asks
-pub kind_in_code : (name : List ℕ) → kind_of name ≡ before_the_rest name (in_the_code name)
+-- the kind by the bytes, in the code's order
+abbrev pub by_bytes_in_code : List ℕ → ℕ
+by_bytes_in_code name = before_the_rest name (in_the_code name)
+
+pub kind_in_code : (name : List ℕ) → kind_of name ≡ by_bytes_in_code name
 kind_in_code name = kind_is name ∙ ap (before_the_rest name) (rest_is name)
 
 pub ruleset kinds = (kind_in_code, spelled_is)
